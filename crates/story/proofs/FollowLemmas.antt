@@ -1,88 +1,118 @@
--- Where the lines of a schedule lead, and a flush that is done frame by frame.
+-- Where the lines of a schedule lead and what is noted of them, and a flush that is done frame by frame.
 use Rattle.std.proofs.Common.{◌≡◌, ℕ, ◌+◌, ◌<◌, List, [], ◌∷◌, ◌++◌, length, slice_get, true, false, Option, Some, None, refl, sym, ap, ◌∙◌, subst, add-one, arith}
-use Rattle.std.proofs.lemmas.Option.{slice_get_within}
 use Rattle.std.proofs.lemmas.List.{append_assoc}
 use Rattle.stable.specs.Script.{Script}
 use Rattle.stable.specs.declared.stable.Stable.{Ghosts}
-use Rattle.events.specs.declared.event.Event.TheVariants as event
-use Rattle.events.specs.declared.fault.WorldFault.{WorldFault}
-use Rattle.events.specs.declared.fault.WorldFault.TheVariants.{NoSuchFrame, NoSuchNode, FlushLimit, Memory, NotEmpty}
+use Rattle.events.specs.declared.fault.WorldFault.TheVariants.{FlushLimit, Memory}
 use Rattle.world.specs.declared.log.TheConstants.{MOST_DELIVERIES}
 use Rattle.world_model.specs.Flushing.{Delivers, more}
 use Rattle.world_model.specs.Waiting.{IsLowestWaiting, NoneWaits, OneWaits}
-use Rattle.world_model.specs.Worlds.{WorldState, DeliversFrame}
-use Rattle.schedule.specs.declared.action.Action.TheVariants.{Step, Flush}
+use Rattle.world_model.specs.Worlds.{WorldState}
+use Rattle.schedule.specs.declared.action.Action.TheVariants.{Flush}
 use Rattle.schedule.specs.declared.replay_fault.ReplayCause.TheVariants.{World}
 use Rattle.schedule.specs.declared.replay_fault.ReplayFault.{ReplayFault}
 use Rattle.schedule.specs.declared.schedule.ScheduleLine.{ScheduleLine}
-use Rattle.replay.specs.Runs.{ActionIsDone, ActionIsRefused, RunIsStopped}
-use Rattle.replay.proofs.LineByLine.{DoneSoFar, nothing_left}
-use Rattle.story.specs.Following.{AreFollowed, ComesNext, LineEndsBy, line_numbers}
-
-numbers_behind : (lines : List ScheduleLine) (line : ScheduleLine) → line_numbers (lines ++ line ∷ []) ≡ line_numbers lines ++ line.number ∷ []
-numbers_behind [] line = refl
-numbers_behind (l ∷ lines) line = ap (λ (ns : List ℕ). l.number ∷ ns) (numbers_behind lines line)
-
--- one number more
-pub one_more_begun : (others numbers now : List ℕ) (taken : List ScheduleLine) (line : ScheduleLine)
-    → numbers ≡ others ++ line_numbers taken → now ≡ numbers ++ line.number ∷ [] → now ≡ others ++ line_numbers (taken ++ line ∷ [])
-one_more_begun others numbers now taken line before next =
-    next ∙ ap (λ (ns : List ℕ). ns ++ line.number ∷ []) before ∙ append_assoc others (line_numbers taken) (line.number ∷ [])
-    ∙ ap (λ (ns : List ℕ). others ++ ns) (sym (numbers_behind taken line))
-
-some_is : (a b : ReplayFault) → Some a ≡ Some b → a ≡ b
-some_is a b e = cc
+use Rattle.replay.proofs.LineByLine.{nothing_left}
+use Rattle.story.specs.declared.deeds.Deed.TheVariants.{Delivered}
+use Rattle.story.specs.declared.ledger.LineBegin.{LineBegin}
+use Rattle.story.specs.declared.ledger.Step.{Step as AStep}
+use Rattle.story.specs.Following.{AreFollowed, AreNoted, ComesNext, LineEndsBy, next}
+use Rattle.story.specs.Noting.{ComeInTurn, LineIsNoted, NotesLine, step_of, next as next_frame}
 
 abbrev IsWaiting : {S : Type 0} → WorldState S → ℕ → Type 0
 IsWaiting w k = slice_get w.waiting k ≡ Some true
 
-module _ {S : Type 0} (storages : Ghosts (Script S)) where
-  -- the lines that a loop took are done, and then one can't be
-  pub stops_at_one : (lines all taken left rest : List ScheduleLine) (line : ScheduleLine) (count : ℕ) (start now new : WorldState S)
-      (fault : ReplayFault) (others numbers : List ℕ) → all ≡ lines
-      → DoneSoFar (ActionIsDone storages) all taken left count start now → left ≡ line ∷ rest
-      → RunIsStopped storages line now fault new → numbers ≡ others ++ line_numbers (taken ++ line ∷ [])
-      → AreFollowed storages lines others numbers start (Some fault) new
-  stops_at_one lines all taken left rest line count start now new fault others numbers same so_far next stopped begun = record {
-    reached = taken ++ line ∷ [];
-    left = rest;
-    parts = sym same ∙ sym so_far.parts ∙ ap (λ (ls : List ScheduleLine). taken ++ ls) next ∙ sym (append_assoc taken (line ∷ []) rest);
-    begun = begun;
-    ends = record { before = taken; line = line; parts = refl; reached = now; led = so_far.led; stopped = stopped };
-  }
+-- how far a loop over all lines has come: these it took, and so many are left
+pub record AreTaken (all taken left : List ScheduleLine) (count : ℕ) : Type 0 where
+  pub parts : taken ++ left ≡ all
+  pub counted : count ≡ length left
 
-  -- all are done
-  pub all_followed : (lines all taken left : List ScheduleLine) (count : ℕ) (start now : WorldState S) (others numbers : List ℕ)
-      → all ≡ lines → DoneSoFar (ActionIsDone storages) all taken left count start now → count ≡ 0
-      → numbers ≡ others ++ line_numbers taken → AreFollowed storages lines others numbers start None now
-  all_followed lines all taken left count start now others numbers same so_far none_left begun =
-      let empty : left ≡ [] = nothing_left left (sym so_far.counted ∙ none_left) in record {
-        reached = taken;
-        left = [];
-        parts = sym same ∙ sym so_far.parts ∙ ap (λ (ls : List ScheduleLine). taken ++ ls) empty;
-        begun = begun;
-        ends = (refl, so_far.led);
-      }
+-- it takes the next line
+pub one_more_taken : (all taken left rest : List ScheduleLine) (line : ScheduleLine) (count fewer : ℕ) → AreTaken all taken left count
+    → (left ≡ line ∷ rest) × (fewer + 1 ≡ count) → AreTaken all (taken ++ line ∷ []) rest fewer
+one_more_taken all taken left rest line count fewer so_far step = record {
+  parts = append_assoc taken (line ∷ []) rest ∙ ap (λ (ls : List ScheduleLine). taken ++ ls) (sym step.0) ∙ so_far.parts;
+  counted = let shorter = ap length step.0 in omega (arith, shorter, so_far.counted, step.1);
+}
+
+module _ {S : Type 0} (storages : Ghosts (Script S)) where
+  -- ---- the lines
+  module _ (others : List LineBegin) (before : List AStep) (start : WorldState S) where
+    -- one line more is noted: as it begins, and as it is done
+    pub line_noted : (taken : List ScheduleLine) (line : ScheduleLine) (begins begun done : List LineBegin) (steps at after : List AStep)
+        (now same new : WorldState S) (fault : Option ReplayFault)
+        → AreNoted storages others before start taken begins steps None now
+        → begun ≡ begins ++ record { number = line.number; step = length steps } ∷ [] → at ≡ steps → same ≡ now
+        → done ≡ begun → LineEndsBy storages line same fault new → NotesLine storages line.action fault same at new after
+        → AreNoted storages others before start (taken ++ line ∷ []) done after fault new
+    line_noted taken line begins begun done steps at after now same new fault led is_begun is_at is_now is_done ends noted =
+        let its_end : LineEndsBy storages line now fault new = subst (λ (w : WorldState S). LineEndsBy storages line w fault new) is_now ends in
+        let its_steps : LineIsNoted storages line.action fault now noted.more new =
+        subst (λ (w : WorldState S). LineIsNoted storages line.action fault w noted.more new) is_now noted.noted in
+        let begins_now : List LineBegin = begins ++ record { number = line.number; step = length steps } ∷ [] in
+        let all : AreNoted storages others before start (taken ++ line ∷ []) begins_now (steps ++ noted.more) fault new =
+        next taken begins steps now line noted.more fault new led its_end its_steps in
+        subst (λ (bs : List LineBegin). AreNoted storages others before start (taken ++ line ∷ []) bs after fault new)
+        (sym (is_done ∙ is_begun))
+        (subst (λ (ss : List AStep). AreNoted storages others before start (taken ++ line ∷ []) begins_now ss fault new)
+        (sym (noted.steps ∙ ap (λ (ss : List AStep). ss ++ noted.more) is_at)) all)
+
+    -- the lines that a loop took are noted, and the last one of them can't be done
+    pub stops_at_one : (lines all taken left rest : List ScheduleLine) (line : ScheduleLine) (count fewer : ℕ) (begins : List LineBegin)
+        (steps : List AStep) (new : WorldState S) (fault : Option ReplayFault) (f : ReplayFault) → all ≡ lines
+        → AreTaken all taken left count → (left ≡ line ∷ rest) × (fewer + 1 ≡ count) → fault ≡ Some f
+        → AreNoted storages others before start (taken ++ line ∷ []) begins steps fault new
+        → AreFollowed storages lines others begins before steps start fault new
+    stops_at_one lines all taken left rest line count fewer begins steps new fault f same so_far step is noted = record {
+      reached = taken ++ line ∷ [];
+      left = rest;
+      parts = sym same ∙ sym (one_more_taken all taken left rest line count fewer so_far step).parts;
+      all = λ e. absurd (cc);
+      noted = noted;
+    }
+
+    -- all are done
+    pub all_followed : (lines all taken left : List ScheduleLine) (count : ℕ) (begins : List LineBegin) (steps : List AStep)
+        (now : WorldState S) (fault : Option ReplayFault) → all ≡ lines → AreTaken all taken left count → count ≡ 0 → fault ≡ None
+        → AreNoted storages others before start taken begins steps None now
+        → AreFollowed storages lines others begins before steps start fault now
+    all_followed lines all taken left count begins steps now fault same so_far none_left is noted = record {
+      reached = taken;
+      left = left;
+      parts = sym same ∙ sym so_far.parts;
+      all = λ e. nothing_left left (sym so_far.counted ∙ none_left);
+      noted = subst (λ (o : Option ReplayFault). AreNoted storages others before start taken begins steps o now) (sym is) noted;
+    }
 
   -- ---- a flush
   -- one frame more comes
-  pub one_comes : (line n : ℕ) (old now new : WorldState S) (fault : Option ReplayFault) → Delivers storages old n now
-      → ComesNext storages line now true fault new → (fault ≡ None) × Delivers storages old (n + 1) new
-  one_comes line n old now new None before h =
-      (refl, subst (λ (m : ℕ). Delivers storages old m new) (sym (add-one n)) (more n h.0 now new before h.1 h.2))
-  one_comes line n old now new (Some fault) before h = absurd h
+  pub one_comes : (line n : ℕ) (old now new : WorldState S) (first before after : List AStep) (fault : Option ReplayFault)
+      → Delivers storages old n now → NotesLine storages Flush None old first now before
+      → ComesNext storages line now before true fault new after
+      → (fault ≡ None) × Delivers storages old (n + 1) new × NotesLine storages Flush None old first new after
+  one_comes line n old now new first before after None delivers noted h = (
+    refl,
+    subst (λ (m : ℕ). Delivers storages old m new) (sym (add-one n)) (more n h.0 now new delivers h.1 h.2),
+    record {
+      more = noted.more ++ step_of (Delivered h.0) new ∷ [];
+      steps = h.3 ∙ ap (λ (ss : List AStep). ss ++ step_of (Delivered h.0) new ∷ []) noted.steps
+          ∙ append_assoc first noted.more (step_of (Delivered h.0) new ∷ []);
+      noted = next_frame noted.more h.0 now new noted.noted h.1 h.2;
+    },
+  )
+  one_comes line n old now new first before after (Some fault) delivers noted h = absurd h
 
   -- none comes any more
-  pub flush_is_over : (line n : ℕ) (old now new : WorldState S) (fault : Option ReplayFault) → Delivers storages old n now
-      → n < MOST_DELIVERIES → ComesNext storages line now false fault new
+  pub flush_is_over : (line n : ℕ) (old now new : WorldState S) (before after : List AStep) (fault : Option ReplayFault)
+      → Delivers storages old n now → n < MOST_DELIVERIES → ComesNext storages line now before false fault new after
       → LineEndsBy storages (record { number = line; action = Flush }) old fault new
-  flush_is_over line n old now new None before few h = (
+  flush_is_over line n old now new before after None delivers few h = (
     n,
     omega (arith, few),
-    subst (λ (w : WorldState S). Delivers storages old n w) (sym h.0) before,
+    subst (λ (w : WorldState S). Delivers storages old n w) (sym h.0) delivers,
     subst (λ (w : WorldState S). NoneWaits w.waiting) (sym h.0) h.1,
   )
-  flush_is_over line n old now new (Some fault) before few h = record {
+  flush_is_over line n old now new before after (Some fault) delivers few h = record {
     number = h.0;
     why = Memory;
     cause = h.1;
@@ -90,7 +120,7 @@ module _ {S : Type 0} (storages : Ghosts (Script S)) where
       delivers = record {
         delivered = n;
         fewer = few;
-        delivers = subst (λ (w : WorldState S). Delivers storages old n w) (sym h.2) before;
+        delivers = subst (λ (w : WorldState S). Delivers storages old n w) (sym h.2) delivers;
       };
       one_waits = subst (λ (w : WorldState S). OneWaits w.waiting) (sym h.2) h.3;
     };
@@ -121,59 +151,19 @@ module _ {S : Type 0} (storages : Ghosts (Script S)) where
     };
   }
 
-  -- ---- one delivery of it
-  pub lowest_comes : (line k : ℕ) (old seen new : WorldState S) (fault : Option ReplayFault) → seen ≡ old → IsLowestWaiting old.waiting k
-      → LineEndsBy storages (record { number = line; action = Step (event.Deliver k) }) seen fault new → fault ≡ None
-      → ComesNext storages line old true None new
-  lowest_comes line k old seen new None same lowest h is =
-      (k, lowest, subst (λ (w : WorldState S). DeliversFrame storages w k new) same h.1)
-  lowest_comes line k old seen new (Some fault) same lowest h is = absurd (cc)
+  -- what is noted of it stands, where nothing more comes
+  pub turn_stands : (old now new : WorldState S) (first before after : List AStep) (fault : Option ReplayFault)
+      → NotesLine storages Flush None old first now before → new ≡ now → after ≡ before
+      → NotesLine storages Flush fault old first new after
+  turn_stands old now new first before after fault noted same stands = record {
+    more = noted.more;
+    steps = stands ∙ noted.steps;
+    noted = subst (λ (w : WorldState S). ComeInTurn storages old noted.more w) (sym same) noted.noted;
+  }
 
-  -- it was sent, so that memory alone can be wanting
-  refused_for_memory : (line k : ℕ) (old new : WorldState S) (fault : ReplayFault) (why : WorldFault)
-      → length old.waiting ≡ length old.frames → IsLowestWaiting old.waiting k → fault.line ≡ line → fault.cause ≡ World why
-      → ActionIsRefused storages (Step (event.Deliver k)) old why new → ComesNext storages line old false (Some fault) new
-  refused_for_memory line k old new fault NoSuchFrame each lowest at cause h =
-      let within : k < length old.waiting = slice_get_within old.waiting k true lowest.waits in
-      absurd (omega (arith, within, each, h.0))
-  refused_for_memory line k old new fault NoSuchNode each lowest at cause h = absurd h.0
-  refused_for_memory line k old new fault FlushLimit each lowest at cause h = absurd h
-  refused_for_memory line k old new fault NotEmpty each lowest at cause h = absurd h
-  refused_for_memory line k old new fault Memory each lowest at cause h =
-      (at, cause, h.1, record { frame = k; waits = lowest.waits })
-
-  pub lowest_fails : (line k : ℕ) (old seen new : WorldState S) (fault : Option ReplayFault) (f : ReplayFault) → seen ≡ old
-      → length old.waiting ≡ length old.frames → IsLowestWaiting old.waiting k
-      → LineEndsBy storages (record { number = line; action = Step (event.Deliver k) }) seen fault new → fault ≡ Some f
-      → ComesNext storages line old false (Some f) new
-  lowest_fails line k old seen new None f same each lowest h is = absurd (cc)
-  lowest_fails line k old seen new (Some fault) f same each lowest h is =
-      subst (λ (g : ReplayFault). ComesNext storages line old false (Some g) new) (some_is fault f is)
-      (refused_for_memory line k old new fault h.why each lowest h.number h.cause
-      (subst (λ (w : WorldState S). ActionIsRefused storages (Step (event.Deliver k)) w h.why new) same h.refused))
-
-  -- ---- one line
-  -- it is done, and nothing has come of the run since
-  pub ends_without : (line : ScheduleLine) (start now new : WorldState S) (before fault : Option ReplayFault) → before ≡ None
-      → fault ≡ before → new ≡ now → ActionIsDone storages line.action start now → LineEndsBy storages line start fault new
-  ends_without line start now new before fault none_yet same is done =
-      subst (λ (f : Option ReplayFault). LineEndsBy storages line start f new) (sym (same ∙ none_yet))
-      (subst (λ (w : WorldState S). ActionIsDone storages line.action start w) (sym is) done)
-
-  -- the same end
-  pub ends_as : (line : ScheduleLine) (start now new : WorldState S) (before fault : Option ReplayFault)
-      → fault ≡ before → new ≡ now → LineEndsBy storages line start before now → LineEndsBy storages line start fault new
-  ends_as line start now new before fault same is h =
-      subst (λ (f : Option ReplayFault). LineEndsBy storages line start f new) (sym same)
-      (subst (λ (w : WorldState S). LineEndsBy storages line start before w) (sym is) h)
-
-  -- where no fault is noted it is done
-  pub done_without : (line : ScheduleLine) (start end : WorldState S) (fault : Option ReplayFault) → fault ≡ None
-      → LineEndsBy storages line start fault end → ActionIsDone storages line.action start end
-  done_without line start end None is h = h
-  done_without line start end (Some f) is h = absurd (cc)
-
-  pub stopped_by : (line : ScheduleLine) (start end : WorldState S) (fault : Option ReplayFault) (f : ReplayFault) → fault ≡ Some f
-      → LineEndsBy storages line start fault end → RunIsStopped storages line start f end
-  stopped_by line start end None f is h = absurd (cc)
-  stopped_by line start end (Some fault) f is h = subst (λ (g : ReplayFault). RunIsStopped storages line start g end) (some_is fault f is) h
+  pub turn_is_over : (line : ℕ) (old now new : WorldState S) (first before after : List AStep) (fault : Option ReplayFault)
+      → NotesLine storages Flush None old first now before → ComesNext storages line now before false fault new after
+      → NotesLine storages Flush fault old first new after
+  turn_is_over line old now new first before after None noted h = turn_stands old now new first before after None noted h.0 h.2
+  turn_is_over line old now new first before after (Some fault) noted h =
+      turn_stands old now new first before after (Some fault) noted h.2 h.4

@@ -7,7 +7,7 @@ use Rattle.story.specs.declared.ledger.Step.{Step}
 use Rattle.story.specs.Counted.{AreWithin, BeginInOrder, NeverFall, begin_before, begin_or_zero, counts_before, ends_or_none}
 
 -- what stands in a list behind which one more stands
-pushed_get : {A : Type 0} (xs : List A) (x : A) (k : ℕ) (y : A) → slice_get (xs ++ x ∷ []) k ≡ Some y
+pub pushed_get : {A : Type 0} (xs : List A) (x : A) (k : ℕ) (y : A) → slice_get (xs ++ x ∷ []) k ≡ Some y
     → (slice_get xs k ≡ Some y) ⊎ ((k ≡ length xs) × (y ≡ x))
 pushed_get [] x zero y e = inr (refl, cc)
 pushed_get [] x (suc k) y e = absurd (cc)
@@ -20,7 +20,7 @@ same_below [] ys k h = absurd (omega (arith, h))
 same_below (z ∷ xs) ys zero h = refl
 same_below (z ∷ xs) ys (suc k) h = same_below xs ys k (omega (arith, h))
 
-got_last : {A : Type 0} (xs : List A) (x : A) → slice_get (xs ++ x ∷ []) (length xs) ≡ Some x
+pub got_last : {A : Type 0} (xs : List A) (x : A) → slice_get (xs ++ x ∷ []) (length xs) ≡ Some x
 got_last [] x = refl
 got_last (z ∷ xs) x = got_last xs x
 

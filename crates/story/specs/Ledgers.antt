@@ -8,6 +8,7 @@ use Rattle.story.specs.declared.ledger.Ledger.{Ledger}
 use Rattle.story.specs.declared.entries.Entry.{Entry}
 use Rattle.story.specs.Telling.{Tells}
 use Rattle.story.specs.Counted.{AreWithin, BeginInOrder, NeverFall, counts_before}
+use Rattle.story.specs.Passing.{ArePassages}
 
 -- how long the lists of a world are
 abbrev pub counts_of : {S : Type 0} → WorldState S → Counts
@@ -29,12 +30,14 @@ pub record AreSearched (waiting : List Bool) (frames lowest : ℕ) : Type 0 wher
   pub within : lowest ≤ length waiting
   pub one_each : length waiting ≡ frames
 
--- lines begin in order, and no list gets shorter; nothing is counted that isn't there, and each frame that was counted has its passage
+-- lines begin in order, and no list gets shorter; nothing is counted that isn't there, and each frame that was counted has its passage,
+-- which says when it came
 pub record IsKept (l : Ledger) : Type 0 where
   pub lines : BeginInOrder l.lines.items (length l.steps.items)
   pub counts : NeverFall l.steps.items
   pub within : AreWithin (counted l) (counts_of (world_of l.world))
   pub passages : length l.passages.items ≡ (counted l).frames
+  pub came : ArePassages l.steps.items l.passages.items
   pub searched : AreSearched (world_of l.world).waiting (length (world_of l.world).frames) l.lowest
 
 -- and all is counted that is there; there is a flag for each frame, too
@@ -43,6 +46,7 @@ pub record IsComplete (l : Ledger) : Type 0 where
   pub counts : NeverFall l.steps.items
   pub ends : counted l ≡ counts_of (world_of l.world)
   pub passages : length l.passages.items ≡ length (world_of l.world).frames
+  pub came : ArePassages l.steps.items l.passages.items
   pub waiting : length (world_of l.world).waiting ≡ length (world_of l.world).frames
 
 -- a run stands where it stood: its lines, its fault and its world are the same

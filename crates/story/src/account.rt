@@ -34,7 +34,7 @@ pub struct Account {
 /// An error is the first faulty line, or out of memory.
 pub fn tell(alloc: Global, bytes: &[u8], form: Form, frames: bool) -> Result<Account, ReplayFault>
     ensures told { IfOk result (λ account. (ledger : ALedger)
-        × IsRunOf (⟦<Scripted<MemStable> as Stable>⟧) bytes.now ledger.lines.items ledger.fault (world_of ledger.world)
+        × IsRunOf (⟦<Scripted<MemStable> as Stable>⟧) bytes.now ledger.lines.items ledger.steps.items ledger.fault (world_of ledger.world)
         × IsAccountOf ledger frames account) }
     ensures untold { IfErr result (IsUntold bytes.now) }
 {

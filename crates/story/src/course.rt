@@ -2,8 +2,9 @@
 
 ghost use Rattle.std.specs.Prelude.{◌≡◌, IfErr, IfOk, None, OnOk};
 ghost use Rattle.schedule.specs.Causes.{memory};
-ghost use Rattle.story.specs.Following.{AreFollowed, ComesNext, IsRunOf, IsUntold, LineEndsBy, begun_numbers};
+ghost use Rattle.story.specs.Following.{AreFollowed, ComesNext, IsRunOf, IsUntold, LineEndsBy};
 ghost use Rattle.story.specs.Ledgers.{IsComplete, IsKept};
+ghost use Rattle.story.specs.Noting.{IsNoted, NotesLine, deed_of};
 ghost use Rattle.world.specs.Seen.{world_of};
 
 use super::deeds::{Deed, deed_of};
@@ -21,7 +22,7 @@ use world::MOST_DELIVERIES;
 pub fn follow(alloc: Global, bytes: &[u8]) -> Result<Ledger, ReplayFault>
     ensures complete { IfOk result IsComplete }
     ensures run { IfOk result (λ ledger. IsRunOf (⟦<Scripted<MemStable> as Stable>⟧)
-        bytes.now ledger.lines.items ledger.fault (world_of ledger.world)) }
+        bytes.now ledger.lines.items ledger.steps.items ledger.fault (world_of ledger.world)) }
     ensures untold { IfErr result (IsUntold bytes.now) }
 {
     let schedule = parse_schedule(alloc, bytes)?;
@@ -40,7 +41,7 @@ impl Ledger {
         requires goes_on { self.old.fault ≡ None }
         ensures kept { OnOk result (IsKept self.new) }
         ensures followed { OnOk result (AreFollowed (⟦<Scripted<MemStable> as Stable>⟧) lines.items
-            (begun_numbers self.old.lines.items) (begun_numbers self.new.lines.items)
+            self.old.lines.items self.new.lines.items self.old.steps.items self.new.steps.items
             (world_of self.old.world) self.new.fault (world_of self.new.world)) }
         ensures memory { IfErr result (λ fault. fault.cause ≡ memory) }
     {
@@ -63,6 +64,8 @@ impl Ledger {
         ensures lines { OnOk result (self.new.lines.items ≡ self.old.lines.items) }
         ensures done { OnOk result (LineEndsBy (⟦<Scripted<MemStable> as Stable>⟧) line
             (world_of self.old.world) self.new.fault (world_of self.new.world)) }
+        ensures noted { OnOk result (NotesLine (⟦<Scripted<MemStable> as Stable>⟧) line.action self.new.fault
+            (world_of self.old.world) self.old.steps.items (world_of self.new.world) self.new.steps.items) }
         ensures memory { IfErr result (λ fault. fault.cause ≡ memory) }
     {
         let ScheduleLine { number, action } = line;
@@ -86,6 +89,8 @@ impl Ledger {
         ensures done { OnOk result (LineEndsBy (⟦<Scripted<MemStable> as Stable>⟧)
             (record { number = line; action = Action.Flush })
             (world_of self.old.world) self.new.fault (world_of self.new.world)) }
+        ensures noted { OnOk result (NotesLine (⟦<Scripted<MemStable> as Stable>⟧) Action.Flush self.new.fault
+            (world_of self.old.world) self.old.steps.items (world_of self.new.world) self.new.steps.items) }
         ensures memory { IfErr result (λ fault. fault.cause ≡ memory) }
     {
         for delivered in 0..MOST_DELIVERIES {
@@ -109,7 +114,8 @@ impl Ledger {
         ensures kept { OnOk result (IsKept self.new) }
         ensures lines { OnOk result (self.new.lines.items ≡ self.old.lines.items) }
         ensures comes { IfOk result (λ goes_on. ComesNext (⟦<Scripted<MemStable> as Stable>⟧) line
-            (world_of self.old.world) goes_on self.new.fault (world_of self.new.world)) }
+            (world_of self.old.world) self.old.steps.items goes_on
+            self.new.fault (world_of self.new.world) self.new.steps.items) }
         ensures memory { IfErr result (λ fault. fault.cause ≡ memory) }
     {
         match self.next_waiting() {
@@ -133,6 +139,8 @@ impl Ledger {
         ensures done { OnOk result (LineEndsBy (⟦<Scripted<MemStable> as Stable>⟧)
             (record { number = line; action = action })
             (world_of self.old.world) self.new.fault (world_of self.new.world)) }
+        ensures noted { OnOk result (IsNoted (deed_of action) self.new.fault (world_of self.new.world)
+            self.old.steps.items self.new.steps.items) }
         ensures memory { IfErr result (λ fault. fault.cause ≡ memory) }
     {
         let deed = deed_of(&action);

@@ -1,5 +1,8 @@
 //! What is done at a step.
 
+ghost use Rattle.std.specs.Prelude.{◌≡◌};
+ghost use Rattle.story.specs.Noting.{deed_of, deed_of_event};
+
 use events::Event;
 use schedule::Action;
 use wire::NodeId;
@@ -24,7 +27,9 @@ pub enum Deed {
 }
 
 /// What a line asks for.
-pub(crate) fn deed_of(action: &Action) -> Deed {
+pub(crate) fn deed_of(action: &Action) -> Deed
+    ensures { result ≡ deed_of action.now }
+{
     match action {
         Action::Step(event) => deed_of_event(event),
         Action::Flush => Deed::Flushed,
@@ -32,7 +37,10 @@ pub(crate) fn deed_of(action: &Action) -> Deed {
     }
 }
 
-fn deed_of_event(event: &Event) -> Deed {
+/// What is done by an event.
+fn deed_of_event(event: &Event) -> Deed
+    ensures { result ≡ deed_of_event event.now }
+{
     match event {
         Event::Submit { node, .. } => Deed::Submitted(*node),
         Event::Deliver(frame) => Deed::Delivered(*frame),

@@ -1,9 +1,10 @@
 //! What is noted of a run: its lines and steps, and how long the world's lists were behind each.
 
-ghost use Rattle.std.specs.Prelude.{◌≡◌, ◌++◌, ◌∷◌, [], IfErr, IfOk, MatchOption, None, OnOk};
+ghost use Rattle.std.specs.Prelude.{◌≡◌, ◌<◌, ◌≤◌, ◌++◌, ◌∷◌, [], IfErr, IfOk, MatchOption, None, OnOk, length};
 ghost use Rattle.schedule.specs.Causes.{memory};
-ghost use Rattle.story.specs.Following.{begun_numbers};
 ghost use Rattle.story.specs.Ledgers.{IsComplete, IsKept, StandsStill, counts_of};
+ghost use Rattle.story.specs.Noting.{FrameIsNoted, NotesRound, step_of};
+ghost use Rattle.story.specs.Passing.{DeliversOneOf};
 ghost use Rattle.world.specs.Seen.{world_of};
 ghost use Rattle.world_model.specs.Flushing.{IsStart};
 ghost use Rattle.world_model.specs.Waiting.{IsLowestWaiting, NoneWaits};
@@ -63,6 +64,7 @@ pub(super) fn begin(alloc: Global, line: u64, nodes: Nodes) -> Result<Ledger, Re
     ensures kept { IfOk result IsKept }
     ensures starts { IfOk result (λ ledger. IsStart (⟦<Scripted<MemStable> as Stable>⟧) nodes (world_of ledger.world)) }
     ensures lines { IfOk result (λ ledger. ledger.lines.items ≡ []) }
+    ensures steps { IfOk result (λ ledger. ledger.steps.items ≡ []) }
     ensures fault { IfOk result (λ ledger. ledger.fault ≡ None) }
     ensures memory { IfErr result (λ fault. fault.cause ≡ memory) }
 {
@@ -97,8 +99,9 @@ impl Ledger {
     pub(super) fn begin_line(&mut self, number: u64) -> Result<(), ReplayFault>
         requires { IsKept self.old }
         ensures kept { OnOk result (IsKept self.new) }
-        ensures begun { OnOk result (begun_numbers self.new.lines.items
-            ≡ begun_numbers self.old.lines.items ++ number ∷ []) }
+        ensures begun { OnOk result (self.new.lines.items
+            ≡ self.old.lines.items ++ record { number = number; step = length self.old.steps.items } ∷ []) }
+        ensures steps { OnOk result (self.new.steps.items ≡ self.old.steps.items) }
         ensures fault { OnOk result (self.new.fault ≡ self.old.fault) }
         ensures world { OnOk result (world_of self.new.world ≡ world_of self.old.world) }
         ensures memory { IfErr result (λ fault. fault.cause ≡ memory) }
@@ -115,6 +118,7 @@ impl Ledger {
         requires { IsKept self.old }
         ensures kept { IsKept self.new }
         ensures still { StandsStill self.old self.new }
+        ensures steps { self.new.steps.items ≡ self.old.steps.items }
         ensures lowest { MatchOption result (NoneWaits (world_of self.old.world).waiting)
             (IsLowestWaiting (world_of self.old.world).waiting) }
     {
@@ -131,10 +135,13 @@ impl Ledger {
 
     /// Notes what was done, and how long the lists are.
     pub(super) fn note(&mut self, line: u64, deed: Deed) -> Result<(), ReplayFault>
-        requires { IsKept self.old }
+        requires kept { IsKept self.old }
+        requires sent { DeliversOneOf deed (length (world_of self.old.world).frames) }
         ensures complete { OnOk result (IsComplete self.new) }
         ensures kept { OnOk result (IsKept self.new) }
         ensures still { OnOk result (StandsStill self.old self.new) }
+        ensures noted { OnOk result (self.new.steps.items
+            ≡ self.old.steps.items ++ step_of deed (world_of self.old.world) ∷ []) }
         ensures memory { IfErr result (λ fault. fault.cause ≡ memory) }
     {
         let ends = count_lists(&self.world);
@@ -150,18 +157,35 @@ impl Ledger {
 
     /// Parts a round by hand into a step for each frame that was sent and delivered in it, in their order, which is that of the deliveries.
     pub(super) fn part_round(&mut self, line: u64, first: usize) -> Result<(), ReplayFault>
-        requires { IsKept self.old }
+        requires kept { IsKept self.old }
+        requires within { first ≤ length (world_of self.old.world).frames }
         ensures kept { OnOk result (IsKept self.new) }
         ensures still { OnOk result (StandsStill self.old self.new) }
+        ensures noted { OnOk result (NotesRound (world_of self.old.world) first (length (world_of self.old.world).frames)
+            self.old.steps.items self.new.steps.items) }
         ensures memory { IfErr result (λ fault. fault.cause ≡ memory) }
     {
         let end = self.world.frames().len();
         for index in first..end {
-            if is_over(self.world.waiting(), index) {
-                self.note(line, Deed::Delivered(index as u64))?;
-            }
+            self.note_frame(line, index)?;
         }
         send_late(self.world.frames(), self.passages.as_mut_slice(), first);
+        Ok(())
+    }
+
+    /// Notes a frame of a round as a step, if it was delivered in it.
+    fn note_frame(&mut self, line: u64, index: usize) -> Result<(), ReplayFault>
+        requires kept { IsKept self.old }
+        requires within { index < length (world_of self.old.world).frames }
+        ensures kept { OnOk result (IsKept self.new) }
+        ensures still { OnOk result (StandsStill self.old self.new) }
+        ensures noted { OnOk result (FrameIsNoted (world_of self.old.world) index
+            self.old.steps.items self.new.steps.items) }
+        ensures memory { IfErr result (λ fault. fault.cause ≡ memory) }
+    {
+        if is_over(self.world.waiting(), index) {
+            return self.note(line, Deed::Delivered(index as u64));
+        }
         Ok(())
     }
 }

@@ -1,7 +1,8 @@
 //! A run for people: what came of each line of a schedule, as text, as JSON, and as a space-time diagram, also where it ends with a fault.
 //!
-//! `follow` does the lines, and keeps how long the world's lists were behind each step. `list_run` lists what is told of that: each line,
-//! each step and each entry of the world's lists, once and in order, as `specs/Telling.antt` defines. `tell` and `draw` walk that list.
+//! `follow` does the lines, and notes of each with which step it begins and what was done at its steps, as `specs/Following.antt` defines,
+//! and how long the world's lists were then. `list_run` lists what is told of that: each line, each step and each entry of the world's
+//! lists, once and in order, as `specs/Telling.antt` defines. `tell` and `draw` walk that list.
 #![tactic(auto)]
 
 mod account;

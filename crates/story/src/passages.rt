@@ -1,6 +1,7 @@
 //! When each frame was sent, and when it came.
 
-ghost use Rattle.std.specs.Prelude.{◌≡◌, ◌≤◌, length, vec_len, OnOk};
+ghost use Rattle.std.specs.Prelude.{◌≡◌, ◌≤◌, ◌<◌, length, not, slice_get, vec_len, OnOk, Some};
+ghost use Rattle.story.specs.Passing.{DeliversOneOf, NotesComing, SameComings};
 
 use super::deeds::Deed;
 use diagram::Passage;
@@ -8,20 +9,29 @@ use std::alloc::AllocError;
 use wire::Frame;
 
 /// Whether the frame of this number waits no more.
-pub(crate) fn is_over(waiting: &[bool], index: usize) -> bool {
-    match waiting.get(index) {
-        Some(waits) => !*waits,
-        None => false,
-    }
+pub(crate) fn is_over(waiting: &[bool], index: usize) -> bool
+    requires { index < length waiting.now }
+    ensures { slice_get waiting.now index ≡ Some (not result) }
+{
+    !waiting[index]
 }
 
 /// A frame of a round was sent when its sender had heard the last of what came to it before.
-pub(crate) fn send_late(frames: &[Frame], passages: &mut [Passage], first: usize) {
+pub(crate) fn send_late(frames: &[Frame], passages: &mut [Passage], first: usize)
+    ensures { SameComings passages.old passages.new }
+{
     for index in first..frames.len() {
         let sent = heard_before(frames, passages, first, index);
-        if let Some(passage) = passages.get_mut(index) {
-            passage.sent = passage.sent.max(sent);
-        }
+        delay(passages, index, sent);
+    }
+}
+
+/// A frame was sent no sooner than at this step.
+fn delay(passages: &mut [Passage], index: usize, sent: usize)
+    ensures { SameComings passages.old passages.new }
+{
+    if index < passages.len() {
+        passages[index].sent = passages[index].sent.max(sent);
     }
 }
 
@@ -56,27 +66,37 @@ pub(crate) fn note_passages(
     count: usize,
     deed: &Deed,
 ) -> Result<(), AllocError>
+    requires before { vec_len passages.old ≤ count }
+    requires sent { DeliversOneOf deed.now count }
+    ensures count { OnOk result (length passages.new.items ≡ count) }
+    ensures came { OnOk result (NotesComing deed.now step passages.old.items passages.new.items) }
+{
+    add_sent(passages, step, count)?;
+    if let Deed::Delivered(frame) = deed {
+        come(passages.as_mut_slice(), *frame as usize, step);
+    }
+    Ok(())
+}
+
+/// Frames were sent at a step, up to so many in all.
+fn add_sent(passages: &mut Vec<Passage>, step: usize, count: usize) -> Result<(), AllocError>
     requires { vec_len passages.old ≤ count }
-    ensures { OnOk result (length passages.new.items ≡ count) }
+    ensures count { OnOk result (length passages.new.items ≡ count) }
+    ensures came { OnOk result (SameComings passages.old.items passages.new.items) }
 {
     let sent = Passage {
         sent: step,
         came: None,
     };
-    passages.resize(count, sent)?;
-    if let Deed::Delivered(frame) = deed {
-        if let Ok(index) = usize::try_from(*frame) {
-            come(passages.as_mut_slice(), index, step);
-        }
-    }
-    Ok(())
+    passages.resize(count, sent)
 }
 
 /// A frame came at a step.
-fn come(passages: &mut [Passage], index: usize, step: usize) {
-    if let Some(passage) = passages.get_mut(index) {
-        if passage.came.is_none() {
-            passage.came = Some(step);
-        }
+fn come(passages: &mut [Passage], index: usize, step: usize)
+    requires { index < length passages.old }
+    ensures { NotesComing (Deed.Delivered index) step passages.old passages.new }
+{
+    if passages[index].came.is_none() {
+        passages[index].came = Some(step);
     }
 }

@@ -35,7 +35,7 @@ pub fn draw(
     to: Option<usize>,
 ) -> Result<Account, ReplayFault>
     ensures run { IfOk result (λ account. (ledger : ALedger)
-        × IsRunOf (⟦<Scripted<MemStable> as Stable>⟧) bytes.now ledger.lines.items ledger.fault (world_of ledger.world)
+        × IsRunOf (⟦<Scripted<MemStable> as Stable>⟧) bytes.now ledger.lines.items ledger.steps.items ledger.fault (world_of ledger.world)
         × IsSketchOf ledger from to account) }
     ensures untold { IfErr result (IsUntold bytes.now) }
 {

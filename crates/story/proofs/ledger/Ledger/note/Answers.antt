@@ -4,7 +4,9 @@ use Rattle.story.specs.declared.ledger.Counts.{Counts}
 use Rattle.story.specs.declared.ledger.Step.{Step}
 use Rattle.story.specs.Counted.{AreWithin}
 use Rattle.story.specs.Ledgers.{counted}
+use Rattle.story.specs.Passing.{NotesComing}
 use Rattle.story.proofs.LedgerLemmas.{ends_noted, equal_within, falls_noted, lines_noted}
+use Rattle.story.proofs.PassingLemmas.{passages_noted}
 use Rattle.story.proofs.ledger.Ledger.note.Goals as goal
 
 pub returns-in-Ok-clause-complete : goal.returns-in-Ok-clause-complete
@@ -12,14 +14,17 @@ returns-in-Ok-clause-complete c =
     let s : Step = record { deed = c.args.deed; ends = c.count_lists-ends.result } in
     let e = c.in-Ok.ensures.items in
     let within : AreWithin (counted c.args.self.now) s.ends =
-    subst (λ (k : Counts). AreWithin (counted c.args.self.now) k) (sym c.count_lists-ends.ensures) c.requires.within in
+    subst (λ (k : Counts). AreWithin (counted c.args.self.now) k) (sym c.count_lists-ends.ensures) c.requires.kept.within in
+    let noted : NotesComing c.args.deed (length c.args.self.now.steps.items) c.args.self.now.passages.items
+    c.note_passages.new.passages.items = search rules in
     let passages : length c.note_passages.new.passages.items ≡ c.count_lists-ends.result.frames = search rules in
     record {
-      lines = lines_noted _ _ s e _ c.requires.lines;
-      counts = falls_noted _ _ s e c.requires.counts within;
+      lines = lines_noted _ _ s e _ c.requires.kept.lines;
+      counts = falls_noted _ _ s e c.requires.kept.counts within;
       ends = ends_noted _ _ s e ∙ c.count_lists-ends.ensures;
       passages = passages ∙ ap (λ (k : Counts). k.frames) c.count_lists-ends.ensures;
-      waiting = c.requires.searched.one_each;
+      came = passages_noted _ _ s _ _ e noted c.requires.kept.came;
+      waiting = c.requires.kept.searched.one_each;
     }
 
 pub returns-in-Ok-clause-kept : goal.returns-in-Ok-clause-kept
@@ -27,12 +32,15 @@ returns-in-Ok-clause-kept c =
     let s : Step = record { deed = c.args.deed; ends = c.count_lists-ends.result } in
     let e = c.in-Ok.ensures.items in
     let within : AreWithin (counted c.args.self.now) s.ends =
-    subst (λ (k : Counts). AreWithin (counted c.args.self.now) k) (sym c.count_lists-ends.ensures) c.requires.within in
+    subst (λ (k : Counts). AreWithin (counted c.args.self.now) k) (sym c.count_lists-ends.ensures) c.requires.kept.within in
+    let noted : NotesComing c.args.deed (length c.args.self.now.steps.items) c.args.self.now.passages.items
+    c.note_passages.new.passages.items = search rules in
     let passages : length c.note_passages.new.passages.items ≡ c.count_lists-ends.result.frames = search rules in
     record {
-      lines = lines_noted _ _ s e _ c.requires.lines;
-      counts = falls_noted _ _ s e c.requires.counts within;
+      lines = lines_noted _ _ s e _ c.requires.kept.lines;
+      counts = falls_noted _ _ s e c.requires.kept.counts within;
       within = equal_within _ _ (ends_noted _ _ s e ∙ c.count_lists-ends.ensures);
       passages = passages ∙ ap (λ (k : Counts). k.frames) (sym (ends_noted _ _ s e));
-      searched = c.requires.searched;
+      came = passages_noted _ _ s _ _ e noted c.requires.kept.came;
+      searched = c.requires.kept.searched;
     }

@@ -1,16 +1,29 @@
--- Whatever a line does, no list gets shorter, and no frame waits again.
+-- Whatever a line does, no list gets shorter, and no frame waits again. A frame that it delivers was sent.
+use Rattle.std.proofs.Common.{length, sym, subst}
+use Rattle.stable.specs.Memory.{in_memory}
+use Rattle.stable.specs.Storages.{scripted}
+use Rattle.world.specs.Seen.{world_of}
+use Rattle.story.specs.declared.deeds.Deed.{Deed}
 use Rattle.story.specs.Ledgers.{counted}
+use Rattle.story.specs.Passing.{DeliversOneOf}
 use Rattle.story.proofs.Growing.{done_has, done_searched, refused_has, refused_searched}
+use Rattle.story.proofs.NotingLemmas.{was_sent}
 use Rattle.story.proofs.ledger.Ledger.take.Goals as goal
 
-pub note-requires : goal.note-requires
-note-requires c = record {
+pub note-requires-clause-kept : goal.note-requires-clause-kept
+note-requires-clause-kept c = record {
   lines = c.requires.kept.lines;
   counts = c.requires.kept.counts;
   within = done_has (counted c.args.self.now) _ c.args.action _ _ c.in-Ok.ensures.done c.requires.kept.within;
   passages = c.requires.kept.passages;
+  came = c.requires.kept.came;
   searched = done_searched c.args.self.now.lowest _ c.args.action _ _ c.in-Ok.ensures.done c.requires.kept.searched;
 }
+
+pub note-requires-clause-sent : goal.note-requires-clause-sent
+note-requires-clause-sent c =
+    subst (λ (d : Deed). DeliversOneOf d (length (world_of c.do_line.new.world).frames)) (sym c.deed_of-deed.ensures)
+    (was_sent (scripted in_memory) c.args.action _ _ c.in-Ok.ensures.done)
 
 pub returns-in-Err-clause-kept : goal.returns-in-Err-clause-kept
 returns-in-Err-clause-kept c =
@@ -19,5 +32,6 @@ returns-in-Err-clause-kept c =
       counts = c.requires.kept.counts;
       within = refused_has (counted c.args.self.now) _ c.args.action _ h.why _ h.refused c.requires.kept.within;
       passages = c.requires.kept.passages;
+      came = c.requires.kept.came;
       searched = refused_searched c.args.self.now.lowest _ c.args.action _ h.why _ h.refused c.requires.kept.searched;
     }

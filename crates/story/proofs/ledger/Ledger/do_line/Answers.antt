@@ -1,0 +1,17 @@
+-- A round begins at a frame that is there, since none is lost in it.
+use Rattle.std.proofs.Common.{◌≡◌, ◌≤◌, length, ap, arith}
+use Rattle.stable.specs.Memory.{in_memory}
+use Rattle.stable.specs.Storages.{scripted}
+use Rattle.world.specs.Seen.{world_of}
+use Rattle.schedule.specs.declared.action.Action.TheVariants.{Round}
+use Rattle.story.proofs.NotingLemmas.{line_grows}
+use Rattle.story.proofs.ledger.Ledger.do_line.Goals as goal
+
+pub part_round-requires-clause-within : goal.part_round-requires-clause-within
+part_round-requires-clause-within c =
+    let same : length c.frames-first.result.now ≡ length (world_of c.args.self.now.world).frames = ap length c.frames-first.ensures in
+    let grows : length (world_of c.args.self.now.world).frames ≤ length (world_of c.take-in-Round.new.self.world).frames =
+    line_grows (scripted in_memory) (record { number = c.args.line.number; action = Round c.in-Round.node c.in-Round.members })
+    c.take-in-Round.new.self.fault (world_of c.args.self.now.world) (world_of c.take-in-Round.new.self.world)
+    c.in_ok-take-in-Round.ensures.done in
+    omega (arith, same, grows)
