@@ -3,6 +3,6 @@ mod ActionLemmas
 -- the line of each first word
 mod Cases
 -- a line asks for one thing, or has a fault
-mod LineLaws
+pub mod LineLaws
 -- where a query ends in a position
 mod PositionLemmas

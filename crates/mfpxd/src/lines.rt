@@ -1,6 +1,8 @@
 //! The streams of clients, as lines.
 
-ghost use Rattle.std.specs.Prelude.{[]};
+ghost use Rattle.std.specs.Prelude.{[], All};
+ghost use Rattle.serving.specs.Owing.{HasRoom};
+ghost use Rattle.serving.specs.Tapes.{heard_in};
 
 use crate::client::{Client, Heard};
 use crate::reading::ROOM;
@@ -112,7 +114,9 @@ impl Lines {
         alloc: Global,
         place: usize,
         waiting: &Waiting,
-    ) -> Result<Option<Came>, AllocError> {
+    ) -> Result<Option<Came>, AllocError>
+        ensures { All (HasRoom waiting.now) (heard_in result) }
+    {
         let Some(Some(client)) = self.clients.get_mut(place) else {
             return Ok(None);
         };

@@ -1,7 +1,8 @@
 //! A network and a desk in memory. They record all that passes, and their tapes are these records: over them the theorem of a turn says
 //! what a process let out.
 
-ghost use Rattle.std.specs.Prelude.{◌≡◌, IfOk};
+ghost use Rattle.std.specs.Prelude.{◌≡◌, IfOk, IsTrue};
+ghost use Rattle.serving.specs.Owing.{HasRoom};
 ghost use Rattle.serving.specs.Tapes.{heard};
 ghost use Rattle.server_tests.specs.Recorded.{talked_by};
 
@@ -137,13 +138,17 @@ impl Desk for Counter {
 
     ghost Tells = { λ counter. IsTrue counter.is_whole };
 
-    fn next(&mut self, alloc: Global, _waiting: &Waiting) -> Result<Option<Came>, AllocError> {
+    fn next(&mut self, alloc: Global, waiting: &Waiting) -> Result<Option<Came>, AllocError> {
         if !self.is_whole {
             return Err(AllocError);
         }
         let Some(came) = self.came.pop_front() else {
             return Ok(None);
         };
+        if has_no_room(&came, waiting) {
+            self.came.push_front(came)?;
+            return Ok(None);
+        }
         self.is_whole = false;
         let said = said_of(alloc, &came)?;
         self.said.push(said)?;
@@ -160,6 +165,16 @@ impl Desk for Counter {
         self.said.push(Said::Told { connection, text })?;
         self.is_whole = true;
         Ok(())
+    }
+}
+
+/// Whether it is a line of a connection of which as many wait as may.
+fn has_no_room(came: &Came, waiting: &Waiting) -> bool
+    ensures { ¬ IsTrue result → HasRoom waiting.now (heard came.now) }
+{
+    match came {
+        Came::Line { connection, .. } => waiting.is_full(*connection),
+        Came::Gone { .. } => false,
     }
 }
 

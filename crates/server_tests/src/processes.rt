@@ -183,6 +183,14 @@ impl Trio {
         }
     }
 
+    /// How many things that clients did the node's process has not heard yet.
+    pub(crate) fn unread(&self, number: usize) -> usize {
+        match self.processes.get(number) {
+            Some(Some(process)) => process.counter.came.len(),
+            _ => 0,
+        }
+    }
+
     /// How many campaigns there were.
     pub(crate) fn campaigns(&self) -> u64 {
         let mut all: u64 = 0;

@@ -1,7 +1,7 @@
 //! What clients of three processes are told.
 
 use crate::processes::Trio;
-use serving::MOST_IN_A_TURN;
+use serving::{MOST_CLAIMS, MOST_IN_A_TURN};
 use std::fs;
 use std::test::Fail;
 
@@ -141,19 +141,38 @@ fn a_turn_says_whether_more_may_have_come(rt: HostRuntime) -> Result<(), Fail> {
     trio.pass(alloc, 100)?;
     assert_eq!(rt; trio.busy(1), 0);
     // As many lines as a turn takes: it can't tell whether there are more.
-    for _ in 0..MOST_IN_A_TURN {
-        trio.write(alloc, 1, 4, "nonsense")?;
+    for line in 0..MOST_IN_A_TURN {
+        let connection = 10 + line / MOST_CLAIMS;
+        trio.write(alloc, 1, connection as u64, "submit 7 1 remove bus-7")?;
     }
     trio.pass(alloc, 100)?;
     assert_eq!(rt; trio.busy(1), 1);
-    // Who was told a reply, or the answer to a query that was held back, may have lines that wait unread.
-    trio.write(alloc, 1, 4, "query count from 1")?;
+    // Who was told anything may have lines that wait unread.
+    trio.write(alloc, 1, 4, "nonsense")?;
     trio.pass(alloc, 100)?;
-    assert_eq!(rt; trio.busy(1), 1);
+    assert_eq!(rt; trio.busy(1), 2);
+    trio.pass(alloc, 3_000)?;
+    assert_eq!(rt; trio.busy(1), 3);
+    fs::remove_dir_all(&rt, FOLDER)?;
+    Ok(())
+}
+
+#[test]
+fn so_many_lines_of_a_connection_wait_at_most(rt: HostRuntime) -> Result<(), Fail> {
+    const FOLDER: &str = "servers_full";
+    let alloc = rt.alloc();
+    let mut trio = Trio::start(&rt, FOLDER)?;
+    for _ in 0..MOST_CLAIMS + 8 {
+        trio.write(alloc, 1, 4, "query count from 1")?;
+    }
+    trio.pass(alloc, 100)?;
+    assert_eq!(rt; trio.unread(1), 8);
+    // One position further they are answered, and the others are read.
     trio.write(alloc, 0, 5, "submit 7 1 remove bus-7")?;
     trio.pass(alloc, 3_000)?;
-    assert_eq!(rt; trio.busy(0), 1);
-    assert_eq!(rt; trio.busy(1), 2);
+    assert_eq!(rt; trio.unread(1), 0);
+    let told = trio.told(alloc, 1, 4)?;
+    assert_eq!(rt; told.len(), (MOST_CLAIMS + 8) * "answer 1 count 0\n".len());
     fs::remove_dir_all(&rt, FOLDER)?;
     Ok(())
 }

@@ -42,6 +42,20 @@ not_due due p f is iff true le =
     absurd (cc)
 not_due due p f is iff false gt = leb-false (f + SLOTS_BETWEEN_CHECKPOINTS) p gt
 
+-- one is due
+due_where : (up : Option ReplicaState) (p f : ℕ) → MatchOption up (p ≡ 0) (λ m. p ≡ position m)
+    → MatchOption up (f ≡ 0) (λ m. f ≡ m.acceptor.floor) → f + SLOTS_BETWEEN_CHECKPOINTS ≤ p → IfSome up IsNear → ⊥
+due_where None p f at floor due near = absurd (omega (arith, at, floor, due))
+due_where (Some m) p f at floor due near =
+    let here : p ≡ position m = at in
+    let there : f ≡ m.acceptor.floor = floor in
+    let is : position m < m.acceptor.floor + SLOTS_BETWEEN_CHECKPOINTS = near in
+    absurd (omega (arith, here, there, due, is))
+
+pub not_checkpointed : {S : Type 0} (n : NodeState S) (p f : ℕ) → IsPosition n p → IsFloor n f → f + SLOTS_BETWEEN_CHECKPOINTS ≤ p
+    → ¬ IsCheckpointed n
+not_checkpointed n p f at floor due = λ h. due_where n.up p f at floor due h.near
+
 module _ {S : Type 0} (storages : Ghosts S) where
   -- none is due already
   pub checkpointed_already : (n : NodeState S) (due : Bool) (p f : ℕ) → IsPosition n p → IsFloor n f → due ≡ false

@@ -9,13 +9,17 @@ pub mod Holding
 pub mod KeepingEach
 pub mod KeepingEachOver
 pub mod Leading
+pub mod Learning
 pub mod LettingOut
 pub mod Lists
+pub mod Packets
 pub mod Parts
 pub mod Passing
 pub mod Pasts
 pub mod Places
+pub mod Requested
 pub mod Ripening
+pub mod Sending
 pub mod Settling
 pub mod Staying
 pub mod Submitted

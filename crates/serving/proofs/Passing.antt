@@ -1,5 +1,5 @@
 -- What passes over a network and a desk, one part of a turn after the other.
-use Rattle.std.proofs.Common.{◌≡◌, ℕ, List, [], ◌∷◌, ◌++◌, sym, ap, ◌∙◌, append-nil, append_assoc}
+use Rattle.std.proofs.Common.{◌≡◌, ℕ, All, List, [], ◌∷◌, ◌++◌, sym, ap, ◌∙◌, append-nil, append_assoc}
 use Rattle.std.proofs.lemmas.List.Elements.{All-append, All-cons, All-nil, All-weaker}
 use Rattle.stable.specs.declared.stable.Stable.{Ghosts}
 use Rattle.serving.specs.Serving.{PassesOnly, ServerState, Serves, ServesClients, ServesNodes, ServesOver}
@@ -54,6 +54,11 @@ module _ {T A : Type 0} (tape : T → List A) (Tells : T → Type 0) where
     pub only_one_as : (a b : T) (passed : List A) (x : A) → passed ≡ x ∷ [] → (Tells b → tape b ≡ tape a ++ passed)
         → (Tells b → Tells a) → IsSo x → PassesOnly tape Tells IsSo a b
     only_one_as a b passed x one is told so = only_one a b x so (passes_as a b passed (x ∷ []) is told one)
+
+    -- all that passed is so
+    pub only_read_by : (a b : T) (passed : List A) → (Tells b → tape b ≡ tape a ++ passed)
+        → (Tells b → Tells a) → All IsSo passed → PassesOnly tape Tells IsSo a b
+    only_read_by a b passed is told so = record { passed = passed; each = so; passes = record { told = told; passed_ = is } }
 
     pub only_then : (a b c : T) → PassesOnly tape Tells IsSo a b → PassesOnly tape Tells IsSo b c → PassesOnly tape Tells IsSo a c
     only_then a b c h k = record {

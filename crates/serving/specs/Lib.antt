@@ -2,8 +2,10 @@ pub mod Claiming
 pub mod Clusters
 pub mod HandingOn
 pub mod Knowing
+pub mod Learning
 pub mod Outgoing
 pub mod Owing
+pub mod Packets
 pub mod Patiences
 pub mod Recovery
 pub mod Refusals

@@ -1,5 +1,5 @@
 -- What a process lets out in one go: each frame, packet and text is what the life handed out, or what a client wrote.
-use Rattle.std.specs.Prelude.{◌≡◌, ℕ, List, All, Contains, Option, ⊤}
+use Rattle.std.specs.Prelude.{◌≡◌, ℕ, ◌+◌, List, [], ◌∷◌, ◌++◌, All, Contains, Option, ⊤}
 use Rattle.sessions.specs.SessionReplies.{outcome_code}
 use Rattle.wire.specs.FrameSpelling.{IsFrame}
 use Rattle.wire.specs.declared.frames.envelope.Envelope.{Envelope}
@@ -24,10 +24,24 @@ abbrev pub IsFrameOf : List Envelope → Carried → Type 0
 IsFrameOf frames (Sent to bytes) = SpellsOneOf frames to bytes
 IsFrameOf frames (Arrived bytes) = ⊥
 
+-- each of these frames goes to its receiver: once, in their order
+pub data AreFramesOf : List Envelope → List Carried → Type 0 where
+  none : AreFramesOf [] []
+  next : (frames : List Envelope) (sent : List Carried) (frame : Envelope) (x : Carried) → AreFramesOf frames sent
+      → IsFrameOf (frame ∷ []) x → AreFramesOf (frames ++ frame ∷ []) (sent ++ x ∷ [])
+
 -- this packet goes to a node to which requests are handed on
 abbrev pub IsPacketOf : Option ℕ → ℕ → List ℕ → Carried → Type 0
 IsPacketOf leader own packet (Sent to bytes) = (bytes ≡ packet) × IsHandedTo leader own to
 IsPacketOf leader own packet (Arrived bytes) = ⊥
+
+-- of so many nodes, it goes to each to which requests are handed on: once, in the order of their numbers
+pub data ArePacketsOf (leader : Option ℕ) (own : ℕ) (packet : List ℕ) : ℕ → List Carried → Type 0 where
+  none : ArePacketsOf leader own packet 0 []
+  sends_to : (node : ℕ) (sent : List Carried) → ArePacketsOf leader own packet node sent → IsHandedTo leader own node
+      → ArePacketsOf leader own packet (node + 1) (sent ++ Sent node packet ∷ [])
+  passes_by : (node : ℕ) (sent : List Carried) → ArePacketsOf leader own packet node sent → ¬ IsHandedTo leader own node
+      → ArePacketsOf leader own packet (node + 1) sent
 
 -- it came
 abbrev pub IsArrival : Carried → Type 0

@@ -1,14 +1,15 @@
 -- What a process owes its clients: one text for each line.
-use Rattle.std.specs.Prelude.{◌≡◌, ℕ, ◌==◌, ◌+◌, Bool, false, List, ◌++◌, map, All, Contains, count_by}
+use Rattle.std.specs.Prelude.{◌≡◌, ℕ, ◌==◌, ◌+◌, ◌<◌, ⊤, Bool, false, List, ◌++◌, map, All, Contains, count_by}
 use Rattle.std.specs.List.{filter}
 use Rattle.sessions.specs.SessionReplies.{outcome_code}
 use Rattle.world_model.specs.declared.lists.Replied.{Replied}
 use Rattle.clients.specs.AnswerLines.{answer_line}
 use Rattle.clients.specs.declared.answer.ClientAnswer.TheVariants as answer
 use Rattle.serving.specs.declared.claims.Claim.{Claim}
-use Rattle.serving.specs.Claiming.{is_of}
+use Rattle.serving.specs.declared.claims.TheConstants.{MOST_CLAIMS}
+use Rattle.serving.specs.Claiming.{is_for, is_of}
 use Rattle.serving.specs.Tapes.{Talk, Heard, Went, Told}
-use Rattle.serving.specs.Waitings.{WaitingState, is_told_to, lines_of}
+use Rattle.serving.specs.Waitings.{WaitingState, is_asked_by, is_told_to}
 
 -- ---- by connection
 -- a line that it wrote
@@ -25,7 +26,14 @@ is_text_to connection (Went by) = false
 
 -- so many of its lines wait for their texts
 abbrev pub owed_to : ℕ → WaitingState → ℕ
-owed_to connection waiting = lines_of connection waiting + count_by (is_told_to connection) waiting.due
+owed_to connection waiting = count_by (is_for connection) waiting.claims + count_by (is_asked_by connection) waiting.questions
+    + count_by (is_told_to connection) waiting.due
+
+-- a line that is read is one of a connection of which fewer wait than may
+abbrev pub HasRoom : WaitingState → Talk → Type 0
+HasRoom waiting (Heard connection text) = owed_to connection waiting < MOST_CLAIMS
+HasRoom waiting (Told connection text) = ⊤
+HasRoom waiting (Went connection) = ⊤
 
 -- ---- one text for each line
 -- each line of a connection that hasn't gone was answered by one text, or waits for it

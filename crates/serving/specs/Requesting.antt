@@ -1,6 +1,7 @@
 -- The requests of a node's clients that may be handed on.
-use Rattle.std.specs.Prelude.{◌≡◌, ℕ, ◌==◌, ◌&&◌, ◌≤◌, ◌-◌, Bool, ⊤, Option, Some, None, List, ◌∷◌, ◌++◌, All, length}
-use Rattle.std.specs.List.{list_any}
+use Rattle.std.specs.Prelude.{◌≡◌, ℕ, ◌==◌, ◌&&◌, ◌≤◌, ◌-◌, Bool, not, ⊤, Option, Some, None, List, [], ◌∷◌, ◌++◌, All, false, length, map}
+use Rattle.std.specs.List.{filter, list_any}
+use Rattle.world_model.specs.declared.lists.Replied.{Replied}
 use Rattle.serving.specs.declared.hand_on.TheConstants.{HAND_ON_PERIOD}
 use Rattle.serving.specs.declared.requests.TheConstants.{HANDED_ON}
 
@@ -11,6 +12,11 @@ pub record RequestState : Type 0 where
   pub packet : List ℕ
   -- when it was handed on last, if it was
   pub handed_on : Option ℕ
+
+-- what is sent begins with the mark
+abbrev pub is_marked : List ℕ → Bool
+is_marked [] = false
+is_marked (byte ∷ bytes) = byte == HANDED_ON
 
 -- the client's request of this number
 abbrev pub is_request : ℕ → ℕ → RequestState → Bool
@@ -32,6 +38,24 @@ IsDueAt now (Some handed_on) = HAND_ON_PERIOD ≤ now - handed_on
 
 abbrev pub IsDue : ℕ → RequestState → Type 0
 IsDue now request = IsDueAt now request.handed_on
+
+-- none is
+abbrev pub NoneIsDue : ℕ → List RequestState → Type 0
+NoneIsDue now requests = All (λ request. ¬ IsDue now request) requests
+
+-- whose they are and what is sent of them, whenever that was
+abbrev pub as_new : RequestState → RequestState
+as_new request = record request { handed_on = None }
+
+abbrev pub unmarked : List RequestState → List RequestState
+unmarked requests = map as_new requests
+
+-- the requests that none of these replies is to
+abbrev pub is_replied : List Replied → RequestState → Bool
+is_replied replies request = list_any (λ replied. is_request replied.client replied.number request) replies
+
+abbrev pub unreplied : List Replied → List RequestState → List RequestState
+unreplied replies requests = filter (λ request. not (is_replied replies request)) requests
 
 -- the first request that is due, which stands at this place, is handed on now; nothing else changes
 pub record HandsOnFirst (now place : ℕ) (old new : List RequestState) : Type 0 where

@@ -83,6 +83,12 @@ pub record ServesClients {S D : Type 0} (storages : Ghosts S) (talk : D → List
   pub serves : Serves storages old [] said new
   pub talks : HasPassed talk Talks desk said desk'
 
+-- all that passes, taken together, is so
+pub record Passes {T A : Type 0} (tape : T → List A) (Tells : T → Type 0) (AreSo : List A → Type 0) (old new : T) : Type 0 where
+  pub passed : List A
+  pub are : AreSo passed
+  pub passes : HasPassed tape Tells old passed new
+
 -- nothing passes but what is so
 pub record PassesOnly {T A : Type 0} (tape : T → List A) (Tells : T → Type 0) (IsSo : A → Type 0) (old new : T) : Type 0 where
   pub passed : List A

@@ -5,6 +5,7 @@ use Rattle.synod.specs.declared.ballot.Ballot.{Ballot}
 use Rattle.synod.specs.declared.vote.Vote.{Vote}
 use Rattle.sessions.specs.declared.command.Command.{Command}
 use Rattle.wire.specs.Promises.{Promised}
+use Rattle.wire.specs.declared.frames.envelope.Envelope.{Envelope}
 use Rattle.wire.specs.declared.frames.message.Message.{Message}
 use Rattle.wire.specs.declared.frames.message.Message.TheVariants as message
 use Rattle.serving.specs.Patiences.{PatienceState, fresh_patience, next_spread, patience_of}
@@ -91,6 +92,15 @@ seen (message.Ask slot) now t = t
 seen (message.SnapAsk position number) now t = t
 seen (message.SnapPart part) now t = t
 seen (message.Behind floor) now t = t
+
+-- what a frame of its own tells: that it campaigns, or that it voted
+abbrev pub own_seen : Message → ℕ → TimingState → TimingState
+own_seen (message.Prepare ballot first) now t = ballot_seen ballot now t
+own_seen (message.Accepted vote) now t = slot_seen vote.slot t
+own_seen other now t = t
+
+abbrev pub all_own_seen : List Envelope → ℕ → TimingState → TimingState
+all_own_seen frames now t = fold (λ known frame. own_seen frame.message now known) t frames
 
 -- ---- what it wants
 -- a client waits for a reply, or there were votes for what the node has still to execute

@@ -1,5 +1,5 @@
 -- What connections wait for.
-use Rattle.std.specs.Prelude.{◌≡◌, ℕ, ◌==◌, ◌||◌, ◌<◌, ◌≤◌, ◌+◌, Bool, List, [], ◌∷◌, ◌++◌, All, count_by, true, false}
+use Rattle.std.specs.Prelude.{◌≡◌, ℕ, ◌==◌, ◌||◌, ◌<◌, ◌≤◌, Bool, List, [], ◌∷◌, ◌++◌, All, true, false}
 use Rattle.std.specs.List.{list_any}
 use Rattle.serving.specs.declared.claims.Claim.{Claim}
 use Rattle.serving.specs.declared.waiting.Question.{Question}
@@ -33,10 +33,6 @@ is_waiting connection waiting = list_any (is_for connection) waiting.claims
 abbrev pub has_any : {A : Type 0} → List A → Bool
 has_any [] = false
 has_any (x ∷ xs) = true
-
--- so many of its lines wait for a reply or a position
-abbrev pub lines_of : ℕ → WaitingState → ℕ
-lines_of connection waiting = count_by (is_for connection) waiting.claims + count_by (is_asked_by connection) waiting.questions
 
 -- ---- queries that are held back
 -- the node isn't where the query is to be asked

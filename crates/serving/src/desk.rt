@@ -1,6 +1,7 @@
 //! What a process is joined to its clients by.
 
-ghost use Rattle.std.specs.Prelude.{◌≡◌, ◌++◌, ◌∷◌, [], List};
+ghost use Rattle.std.specs.Prelude.{◌≡◌, ◌++◌, ◌∷◌, [], All, List};
+ghost use Rattle.serving.specs.Owing.{HasRoom};
 ghost use Rattle.serving.specs.Tapes.{Talk, Told, heard_in};
 
 use super::waiting::Waiting;
@@ -27,6 +28,7 @@ pub trait Desk {
 
     /// What a client did, or None where none did anything. Lines of a connection of which as many wait as may stay unread.
     fn next(&mut self, alloc: Global, waiting: &Waiting) -> Result<Option<Came>, AllocError>
+        ensures room { All (HasRoom waiting.now) (heard_in result) }
         ensures tape { Tells self.new → tape self.new ≡ tape self.old ++ heard_in result }
         ensures told { Tells self.new → Tells self.old }
         ensures kept { ¬ Tells self.new → tape self.new ≡ tape self.old };

@@ -1,8 +1,8 @@
 //! The requests of this node's clients that may be handed on.
 
-ghost use Rattle.std.specs.Prelude.{◌≡◌, ◌<◌, ◌↔◌, ◌++◌, ◌∷◌, [], IsTrue, OnOk, OnErr, IfOk, IfSome, IfNone, All, filter, length, not};
+ghost use Rattle.std.specs.Prelude.{◌≡◌, ◌<◌, ◌↔◌, ◌++◌, ◌∷◌, [], IsTrue, OnOk, OnErr, IfOk, IfSome, IfNone, All, filter, length, not, true};
 ghost use Rattle.std.specs.List.{HoldsAt};
-ghost use Rattle.serving.specs.Requesting.{fresh_request, is_known, is_request, HandsOnFirst, IsDue};
+ghost use Rattle.serving.specs.Requesting.{fresh_request, is_known, is_marked, is_request, HandsOnFirst, IsDue};
 
 use super::hand_on::is_due_again;
 use std::alloc::{AllocError, Global};
@@ -23,11 +23,14 @@ struct Request {
 }
 
 impl Model for Request {
-    ghost use Rattle.serving.specs.Requesting.{RequestState};
+    ghost use Rattle.std.specs.Prelude.{◌≡◌, true};
+    ghost use Rattle.serving.specs.Requesting.{RequestState, is_marked};
 
     ghost Value = { RequestState };
 
     ghost view = { λ r. record { client = r.client; number = r.number; packet = r.packet.items; handed_on = r.handed_on } };
+
+    ghost invariant = { λ r. is_marked r.packet.items ≡ true };
 }
 
 /// The requests of this node's clients that wait, the oldest first.
@@ -116,7 +119,8 @@ impl Requests {
     /// What is sent of the request at this place.
     pub fn packet(&self, place: usize) -> &[u8]
         requires { place < length self.now }
-        ensures { HoldsAt (λ request. result.now ≡ request.packet) self.now place }
+        ensures packet { HoldsAt (λ request. result.now ≡ request.packet) self.now place }
+        ensures marked { is_marked result.now ≡ true }
     {
         self.requests[place].packet()
     }
@@ -169,7 +173,8 @@ impl Request {
     }
 
     fn packet(&self) -> &[u8]
-        ensures { result.now ≡ self.now.packet }
+        ensures packet { result.now ≡ self.now.packet }
+        ensures marked { is_marked result.now ≡ true }
     {
         self.packet.as_slice()
     }

@@ -6,8 +6,10 @@ ghost use Rattle.node_model.specs.declared.fault.NodeFault.{NodeFault};
 ghost use Rattle.node_model.specs.declared.input.Input.TheVariants as input;
 ghost use Rattle.world_model.specs.Lives.{down_over};
 ghost use Rattle.serving.specs.Knowing.{IsPosition};
+ghost use Rattle.serving.specs.Learning.{KnowsAsMuch, Learns};
 ghost use Rattle.serving.specs.Outgoing.{IsArrival, IsRightlySent};
 ghost use Rattle.serving.specs.Owing.{KeepsEachOver};
+ghost use Rattle.serving.specs.Requesting.{NoneIsDue};
 ghost use Rattle.serving.specs.Resting.{IsCheckpointed, Rests};
 ghost use Rattle.serving.specs.Serving.{IsServing, PassesOnly, Serves, ServesOver, begun, has_requests};
 ghost use Rattle.serving.specs.Staying.{StaysUp, WasGiven};
@@ -54,6 +56,7 @@ pub struct Server<S> {
 impl<S: Stable + Drop> Server<S> {
     ghost use Rattle.std.specs.Prelude.{ℕ};
     ghost use Rattle.life.specs.Lives.{IsBorn};
+    ghost use Rattle.node_model.specs.Nodes.{NodeState};
     ghost use Rattle.life.specs.Seen.{life_of};
     ghost use Rattle.serving.specs.Seen.{server_of};
 
@@ -124,6 +127,8 @@ impl<S: Stable + Drop> Server<S> {
         ensures rests { OnOk result (Rests (server_of self.new)) }
         ensures sends { OnOk result (PassesOnly N.tape N.Tells (IsRightlySent (leader_in self.new.timing) self.new.own)
             network.old network.new) }
+        ensures handed_on { OnOk result (NoneIsDue now self.new.requests) }
+        ensures learns { OnOk result (Learns N.tape N.Tells self.old network.old self.new network.new) }
     {
         let more_came = self.take(alloc, network, desk, now)?;
         let has_told = self.tell(alloc, network, desk, now)?;
@@ -148,6 +153,7 @@ impl<S: Stable + Drop> Server<S> {
         ensures stays { OnOk result (StaysUp (life_of self.old.life).node (life_of self.new.life).node) }
         ensures comes { OnOk result (PassesOnly N.tape N.Tells IsArrival network.old network.new) }
         ensures checkpoints { OnOk result (IsCheckpointed (life_of self.new.life).node) }
+        ensures learns { OnOk result (Learns N.tape N.Tells self.old network.old self.new network.new) }
     {
         let more_frames = self.take_frames(alloc, network, now)?;
         let more_lines = self.take_lines(alloc, desk)?;
@@ -173,13 +179,15 @@ impl<S: Stable + Drop> Server<S> {
         ensures rests { OnOk result (IsCheckpointed (life_of self.old.life).node → Rests (server_of self.new)) }
         ensures sends { OnOk result (PassesOnly N.tape N.Tells (IsRightlySent (leader_in self.new.timing) self.new.own)
             network.old network.new) }
+        ensures handed_on { OnOk result (NoneIsDue now self.new.requests) }
+        ensures learns { OnOk result (Learns N.tape N.Tells self.old network.old self.new network.new) }
     {
         let has_replied = self.let_out(alloc, network, desk, now)?;
         let has_answered = self.tell_ripe(alloc, desk)?;
-        let has_refused = self.turn_away(alloc)?;
-        self.tell_due(alloc, desk)?;
+        self.turn_away(alloc)?;
+        let has_told = self.tell_due(alloc, desk)?;
         self.hand_on(alloc, network, now)?;
-        Ok(has_replied | has_answered | has_refused)
+        Ok(has_replied | has_answered | has_told)
     }
 
     // Whether a request waits here. The client that made it may be gone.
@@ -194,6 +202,7 @@ impl<S: Stable + Drop> Server<S> {
         ensures serves { Serves S.Stable (server_of self.old) [] [] (server_of self.new) }
         ensures waits { self.new.waiting ≡ self.old.waiting }
         ensures stays { OnOk result (StaysUp (life_of self.old.life).node (life_of self.new.life).node) }
+        ensures knows { KnowsAsMuch self.old self.new }
     {
         let is_asked = self.is_asked();
         let position = self.position();
@@ -218,6 +227,7 @@ impl<S: Stable + Drop> Server<S> {
             × (self.new.timing ≡ campaigned now self.old.timing)) }
         ensures idle { ¬ IsCampaignDue position is_asked now self.old.timing
             → (self.new.life ≡ self.old.life) × (self.new.timing ≡ self.old.timing) }
+        ensures knows { KnowsAsMuch self.old self.new }
     {
         if !self.timing.is_campaign_due(position, is_asked, now) {
             return Ok(());
@@ -242,6 +252,7 @@ impl<S: Stable + Drop> Server<S> {
             × (self.new.timing ≡ record self.old.timing { ticked = now })) }
         ensures idle { ¬ IsTickDue position is_asked now self.old.timing
             → (self.new.life ≡ self.old.life) × (self.new.timing ≡ self.old.timing) }
+        ensures knows { KnowsAsMuch self.old self.new }
     {
         if !self.timing.tick(position, is_asked, now) {
             return Ok(());
@@ -252,9 +263,14 @@ impl<S: Stable + Drop> Server<S> {
     // A checkpoint where one is due, and what it stands for is taken out.
     fn keep_records(&mut self, alloc: Global) -> Result<(), TurnFault>
         ensures checkpoints { OnOk result (IsCheckpointed (life_of self.new.life).node) }
+        ensures due { OnOk result (¬ IsCheckpointed (life_of self.old.life).node
+            → (between : NodeState S) × WasGiven S.Stable (life_of self.old.life).node input.Checkpoint between
+            × WasGiven S.Stable between input.Trim (life_of self.new.life).node) }
+        ensures idle { IsCheckpointed (life_of self.old.life).node → self.new.life ≡ self.old.life }
         ensures serves { Serves S.Stable (server_of self.old) [] [] (server_of self.new) }
         ensures waits { self.new.waiting ≡ self.old.waiting }
         ensures stays { OnOk result (StaysUp (life_of self.old.life).node (life_of self.new.life).node) }
+        ensures knows { KnowsAsMuch self.old self.new }
     {
         if !is_checkpoint_due(self.position(), self.life.node().floor()) {
             return Ok(());
@@ -272,6 +288,7 @@ impl<S: Stable + Drop> Server<S> {
         ensures serves { Serves S.Stable (server_of self.old) [] [] (server_of self.new) }
         ensures waits { self.new.waiting ≡ self.old.waiting }
         ensures stays { OnOk result (StaysUp (life_of self.old.life).node (life_of self.new.life).node) }
+        ensures knows_as_much { KnowsAsMuch self.old self.new }
     {
         refusal(self.life.take(alloc, input))?;
         Ok(())

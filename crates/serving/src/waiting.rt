@@ -3,7 +3,8 @@
 ghost use Rattle.std.specs.Prelude.{◌≡◌, ◌≤◌, ◌↔◌, ◌++◌, ◌∷◌, [], IsTrue, OnOk, OnErr, IfSome, IfNone, MatchOption, All, filter, length, not};
 ghost use Rattle.std.specs.List.{list_any};
 ghost use Rattle.serving.specs.Claiming.{is_for, is_of};
-ghost use Rattle.serving.specs.Waitings.{is_asked_by, is_told_to, is_waiting, lines_of, IsHeldBack, IsFirstRipe};
+ghost use Rattle.serving.specs.Owing.{owed_to};
+ghost use Rattle.serving.specs.Waitings.{is_asked_by, is_told_to, is_waiting, IsHeldBack, IsFirstRipe};
 
 use super::claims::{Claim, Claims, MOST_CLAIMS};
 use std::alloc::{AllocError, Global};
@@ -75,14 +76,16 @@ impl Waiting {
 
     /// Whether as many lines of the connection wait as may.
     pub fn is_full(&self, connection: u64) -> bool
-        ensures { IsTrue result ↔ (MOST_CLAIMS ≤ lines_of connection self.now) }
+        ensures { IsTrue result ↔ (MOST_CLAIMS ≤ owed_to connection self.now) }
     {
         let held = self
             .questions
             .iter()
             .filter(|question| question.connection == connection)
             .count();
-        MOST_CLAIMS <= self.claims.count(connection).saturating_add(held)
+        let due = self.due.iter().filter(|due| due.is_to(connection)).count();
+        let waiting = self.claims.count(connection).saturating_add(held);
+        MOST_CLAIMS <= waiting.saturating_add(due)
     }
 
     /// Whether the connection waits for anything.
@@ -192,7 +195,7 @@ impl Waiting {
         self.due.pop_front()
     }
 
-    /// The connection is gone. What is due to it stays due.
+    /// The connection is gone, and waits for nothing any more.
     pub fn forget(&mut self, connection: u64)
         ensures { self.new ≡ record self.old {
           claims = filter (λ claim. not (is_for connection claim)) self.old.claims;

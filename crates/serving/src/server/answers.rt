@@ -4,7 +4,9 @@ ghost use Rattle.std.specs.Prelude.{◌≡◌, ◌≤◌, ℕ, ◌+◌, ◌-◌,
 ghost use Rattle.clients.specs.AnswerLines.{text_line};
 ghost use Rattle.serving.specs.Outgoing.{IsReplyIn, IsTextTo, KeepsLess};
 ghost use Rattle.serving.specs.Knowing.{IsPosition};
+ghost use Rattle.serving.specs.Learning.{KnowsAsMuch};
 ghost use Rattle.serving.specs.Owing.{AllSettled, KeepsEach, KeepsEachOver, reply_told};
+ghost use Rattle.serving.specs.Requesting.{unreplied};
 ghost use Rattle.serving.specs.Resting.{IsFull, KeepsRequests, NoneIsRipe};
 ghost use Rattle.serving.specs.Serving.{PassesOnly, Serves, ServesClients, asking};
 ghost use Rattle.serving.specs.Tapes.{HasPassed, Told};
@@ -37,6 +39,8 @@ impl<S: Stable + Drop> Server<S> {
         ensures life { self.new.life ≡ self.old.life }
         ensures settled { OnOk result (AllSettled replies.now self.new.waiting.claims) }
         ensures each { OnOk result (KeepsEachOver D.tape D.Tells self.old.waiting desk.old self.new.waiting desk.new) }
+        ensures requests { OnOk result (self.new.requests ≡ unreplied replies.now self.old.requests) }
+        ensures knows { KnowsAsMuch self.old self.new }
     {
         'replies: for replied in replies.iter() {
             tell_reply(alloc, desk, self.waiting.claims(), replied)?;
@@ -57,6 +61,7 @@ impl<S: Stable + Drop> Server<S> {
         ensures each { OnOk result (KeepsEachOver D.tape D.Tells self.old.waiting desk.old self.new.waiting desk.new) }
         ensures node { OnOk result ((life_of self.new.life).node ≡ (life_of self.old.life).node) }
         ensures ripe { OnOk result (NoneIsRipe (life_of self.new.life).node self.new.waiting.questions) }
+        ensures knows { KnowsAsMuch self.old self.new }
     {
         let mut has_told = false;
         'questions: for _ in 0..self.waiting.count_questions() {
@@ -76,6 +81,7 @@ impl<S: Stable + Drop> Server<S> {
         ensures less { IfOk result (λ has_told. MatchBool has_told
             (length self.new.waiting.questions + 1 ≡ length self.old.waiting.questions)
             (NoneIsRipe (life_of self.new.life).node self.new.waiting.questions)) }
+        ensures knows { KnowsAsMuch self.old self.new }
     {
         let position = self.position();
         let Some(question) = self.waiting.ripe(position) else {
@@ -86,23 +92,23 @@ impl<S: Stable + Drop> Server<S> {
     }
 
     // Where the whole log is executed, no request that waits is executed any more: who waits for one is told that it is refused, as a
-    // new one is. Whether anybody was.
-    pub(super) fn turn_away(&mut self, alloc: Global) -> Result<bool, TurnFault>
+    // new one is.
+    pub(super) fn turn_away(&mut self, alloc: Global) -> Result<(), TurnFault>
         ensures serves { Serves S.Stable (server_of self.old) [] [] (server_of self.new) }
         ensures each { OnOk result (KeepsEach [] self.old.waiting self.new.waiting) }
         ensures life { self.new.life ≡ self.old.life }
         ensures questions { self.new.waiting.questions ≡ self.old.waiting.questions }
         ensures full { OnOk result (IsFull (life_of self.new.life).node → (self.new.waiting.claims ≡ []) × (self.new.requests ≡ [])) }
+        ensures knows { KnowsAsMuch self.old self.new }
     {
         if self.position() < SLOTS {
-            return Ok(false);
+            return Ok(());
         }
-        let has_waited = self.waiting.is_for_replies();
         'claims: for _ in 0..self.waiting.claims().len() {
             self.turn_away_next(alloc)?;
         }
         self.requests.clear();
-        Ok(has_waited)
+        Ok(())
     }
 
     // Who has waited longest for a reply is to be told that the request is refused: whether anybody waits.
@@ -113,6 +119,7 @@ impl<S: Stable + Drop> Server<S> {
         ensures life { self.new.life ≡ self.old.life }
         ensures questions { self.new.waiting.questions ≡ self.old.waiting.questions }
         ensures less { OnOk result (length self.new.waiting.claims ≡ length self.old.waiting.claims - 1) }
+        ensures knows { KnowsAsMuch self.old self.new }
     {
         let Some(claim) = self.waiting.take_claim() else {
             return Ok(false);
@@ -130,8 +137,12 @@ impl<S: Stable + Drop> Server<S> {
         Ok(true)
     }
 
-    // What is due is told in the order of the lines.
-    pub(super) fn tell_due<D: Desk>(&mut self, alloc: Global, desk: &mut D) -> Result<(), TurnFault>
+    // What is due is told in the order of the lines: whether anything was.
+    pub(super) fn tell_due<D: Desk>(
+        &mut self,
+        alloc: Global,
+        desk: &mut D,
+    ) -> Result<bool, TurnFault>
         ensures serves { ServesClients S.Stable D.tape D.Tells (server_of self.old) desk.old (server_of self.new) desk.new }
         ensures each { OnOk result (KeepsEachOver D.tape D.Tells self.old.waiting desk.old self.new.waiting desk.new) }
         ensures node { OnOk result ((life_of self.new.life).node ≡ (life_of self.old.life).node) }
@@ -139,11 +150,13 @@ impl<S: Stable + Drop> Server<S> {
             → NoneIsRipe (life_of self.new.life).node self.new.waiting.questions) }
         ensures requests { KeepsRequests (server_of self.old) (server_of self.new) }
         ensures told { OnOk result (self.new.waiting.due ≡ []) }
+        ensures knows { KnowsAsMuch self.old self.new }
     {
-        'due: for _ in 0..self.waiting.count_due() {
+        let count = self.waiting.count_due();
+        'due: for _ in 0..count {
             self.tell_next_due(alloc, desk)?;
         }
-        Ok(())
+        Ok(count > 0)
     }
 
     // What is due next: whether anything is.
@@ -155,6 +168,7 @@ impl<S: Stable + Drop> Server<S> {
             → NoneIsRipe (life_of self.new.life).node self.new.waiting.questions) }
         ensures requests { KeepsRequests (server_of self.old) (server_of self.new) }
         ensures less { OnOk result (length self.new.waiting.due ≡ length self.old.waiting.due - 1) }
+        ensures knows { KnowsAsMuch self.old self.new }
     {
         let Some(what) = self.waiting.take_due() else {
             return Ok(false);
@@ -189,6 +203,7 @@ impl<S: Stable + Drop> Server<S> {
             → NoneIsRipe (life_of self.new.life).node self.new.waiting.questions) }
         ensures requests { KeepsRequests (server_of self.old) (server_of self.new) }
         ensures due { self.new.waiting.due ≡ self.old.waiting.due }
+        ensures knows { KnowsAsMuch self.old self.new }
     {
         if self.position() < question.from {
             self.waiting

@@ -1,11 +1,14 @@
 //! What comes to a process from the other nodes, and from its own.
 
-ghost use Rattle.std.specs.Prelude.{◌≡◌, ◌≤◌, ℕ, ◌∷◌, [], IfSome, IsTrue, OnOk, ◌↔◌};
+ghost use Rattle.std.specs.Prelude.{◌≡◌, ◌≢◌, ◌≤◌, ℕ, List, ◌∷◌, [], IfOk, IsTrue, MatchOption, OnOk, ◌↔◌};
+ghost use Rattle.wire.specs.FrameReading.{frame_in};
 ghost use Rattle.node_model.specs.declared.input.Input.TheVariants as input;
 ghost use Rattle.clients.specs.ClientLines.{IsClientLine};
 ghost use Rattle.clients.specs.declared.line.ClientLine.TheVariants as client_line;
 ghost use Rattle.serving.specs.Knowing.{IsLastNumber};
+ghost use Rattle.serving.specs.Learning.{Follows, KnowsAsMuch, Learns};
 ghost use Rattle.serving.specs.Outgoing.{IsArrival};
+ghost use Rattle.serving.specs.Packets.{IsMessageTaken, IsTakenOnce, IsTakenOver, SubmitsNothing};
 ghost use Rattle.serving.specs.Serving.{PassesOnly, Serves, ServesNodes};
 ghost use Rattle.serving.specs.Staying.{StaysUp};
 ghost use Rattle.serving.specs.Tapes.{Arrived};
@@ -17,6 +20,7 @@ use crate::network::Network;
 use crate::requests::HANDED_ON;
 use clients::{ClientLine, read_line};
 use node_model::Input;
+use schedule::ReplayCause;
 use sessions::Submission;
 use stable::Stable;
 use std::alloc::Global;
@@ -37,6 +41,7 @@ impl<S: Stable + Drop> Server<S> {
         ensures waits { self.new.waiting ≡ self.old.waiting }
         ensures stays { OnOk result (StaysUp (life_of self.old.life).node (life_of self.new.life).node) }
         ensures comes { OnOk result (PassesOnly N.tape N.Tells IsArrival network.old network.new) }
+        ensures learns { OnOk result (Learns N.tape N.Tells self.old network.old self.new network.new) }
     {
         'frames: for _ in 0..MOST_IN_A_TURN {
             if !self.take_next_frame(alloc, network, now)? {
@@ -57,6 +62,7 @@ impl<S: Stable + Drop> Server<S> {
         ensures waits { self.new.waiting ≡ self.old.waiting }
         ensures stays { OnOk result (StaysUp (life_of self.old.life).node (life_of self.new.life).node) }
         ensures comes { OnOk result (PassesOnly N.tape N.Tells IsArrival network.old network.new) }
+        ensures learns { OnOk result (Learns N.tape N.Tells self.old network.old self.new network.new) }
     {
         let came = network.poll(alloc)?;
         let Some(bytes) = came else {
@@ -72,10 +78,28 @@ impl<S: Stable + Drop> Server<S> {
         ensures serves { Serves S.Stable (server_of self.old) (Arrived bytes.now ∷ []) [] (server_of self.new) }
         ensures waits { self.new.waiting ≡ self.old.waiting }
         ensures stays { OnOk result (StaysUp (life_of self.old.life).node (life_of self.new.life).node) }
+        ensures message { ((line : List ℕ) → bytes.now ≢ handed_on line) → OnOk result (IsMessageTaken S.Stable now
+            (frame_in self.old.nodes bytes.now) (life_of self.old.life) self.old.timing (life_of self.new.life) self.new.timing) }
+        ensures line { (line : List ℕ) → bytes.now ≡ handed_on line
+            → OnOk result (IsTakenOver S.Stable line (life_of self.old.life) (life_of self.new.life)) }
+        ensures node { (self.new.own ≡ self.old.own) × (self.new.nodes ≡ self.old.nodes) }
+        ensures learns { OnOk result (Follows self.old.nodes self.old.timing self.new.timing (Arrived bytes.now ∷ [])) }
     {
         if let Some(line) = bytes.strip_prefix(&[HANDED_ON]) {
             return self.take_handed_on(alloc, line);
         }
+        self.take_message(alloc, bytes, now)
+    }
+
+    // A frame of another node. Anything else is passed over.
+    fn take_message(&mut self, alloc: Global, bytes: &[u8], now: u64) -> Result<(), TurnFault>
+        ensures serves { Serves S.Stable (server_of self.old) (Arrived bytes.now ∷ []) [] (server_of self.new) }
+        ensures waits { self.new.waiting ≡ self.old.waiting }
+        ensures stays { OnOk result (StaysUp (life_of self.old.life).node (life_of self.new.life).node) }
+        ensures taken { OnOk result (IsMessageTaken S.Stable now (frame_in self.old.nodes bytes.now)
+            (life_of self.old.life) self.old.timing (life_of self.new.life) self.new.timing) }
+        ensures node { (self.new.own ≡ self.old.own) × (self.new.nodes ≡ self.old.nodes) }
+    {
         match decode(alloc, bytes, self.nodes) {
             Ok(envelope) => {
                 self.timing.see(&envelope, now);
@@ -92,8 +116,11 @@ impl<S: Stable + Drop> Server<S> {
         ensures serves { Serves S.Stable (server_of self.old) (Arrived (handed_on line.now) ∷ []) [] (server_of self.new) }
         ensures waits { self.new.waiting ≡ self.old.waiting }
         ensures stays { OnOk result (StaysUp (life_of self.old.life).node (life_of self.new.life).node) }
+        ensures taken { OnOk result (IsTakenOver S.Stable line.now (life_of self.old.life) (life_of self.new.life)) }
+        ensures knows { KnowsAsMuch self.old self.new }
     {
-        let Some(submission) = submission_in(alloc, line) else {
+        let found = submission_in(alloc, line)?;
+        let Some(submission) = found else {
             return Ok(());
         };
         self.submit_once(alloc, submission, line)
@@ -110,8 +137,10 @@ impl<S: Stable + Drop> Server<S> {
         ensures serves { Serves S.Stable (server_of self.old) (Arrived (handed_on line.now) ∷ []) [] (server_of self.new) }
         ensures once { (last : ℕ) → IsLastNumber (life_of self.old.life).node submission.client last
             → submission.number ≤ last → life_of self.new.life ≡ life_of self.old.life }
+        ensures taken { OnOk result (IsTakenOnce S.Stable submission (life_of self.old.life) (life_of self.new.life)) }
         ensures waits { self.new.waiting ≡ self.old.waiting }
         ensures stays { OnOk result (StaysUp (life_of self.old.life).node (life_of self.new.life).node) }
+        ensures knows { KnowsAsMuch self.old self.new }
     {
         if self.has_counted(submission.client, submission.number.value()) {
             return Ok(());
@@ -140,6 +169,7 @@ impl<S: Stable + Drop> Server<S> {
         ensures serves { Serves S.Stable (server_of self.old) [] [] (server_of self.new) }
         ensures waits { self.new.waiting ≡ self.old.waiting }
         ensures stays { OnOk result (StaysUp (life_of self.old.life).node (life_of self.new.life).node) }
+        ensures knows { KnowsAsMuch self.old self.new }
     {
         'own: for _ in 0..u64::MAX {
             if !self.take_back(alloc)? {
@@ -154,6 +184,7 @@ impl<S: Stable + Drop> Server<S> {
         ensures serves { Serves S.Stable (server_of self.old) [] [] (server_of self.new) }
         ensures waits { self.new.waiting ≡ self.old.waiting }
         ensures stays { OnOk result (StaysUp (life_of self.old.life).node (life_of self.new.life).node) }
+        ensures knows { KnowsAsMuch self.old self.new }
     {
         match self.life.take_back(alloc) {
             Ok(taken) => Ok(taken),
@@ -166,16 +197,19 @@ impl<S: Stable + Drop> Server<S> {
 }
 
 // What the line submits, if it does.
-fn submission_in(alloc: Global, line: &[u8]) -> Option<Submission>
-    ensures { IfSome result (λ submission. IsClientLine line.now (client_line.Submit submission)) }
+fn submission_in(alloc: Global, line: &[u8]) -> Result<Option<Submission>, TurnFault>
+    ensures { IfOk result (λ found. MatchOption found (SubmitsNothing line.now)
+        (λ submission. IsClientLine line.now (client_line.Submit submission))) }
 {
-    let Ok(asked) = read_line(alloc, line) else {
-        return None;
-    };
-    let ClientLine::Submit(submission) = asked else {
-        return None;
-    };
-    Some(submission)
+    match read_line(alloc, line) {
+        Ok(asked) => match asked {
+            ClientLine::Submit(submission) => Ok(Some(submission)),
+            _ => Ok(None),
+        },
+        Err(ReplayCause::Schedule(_)) => Ok(None),
+        // Only memory can be wanting.
+        Err(ReplayCause::World(_)) => Err(TurnFault::Memory),
+    }
 }
 
 // What the submission is to a node.

@@ -1,10 +1,12 @@
 //! What a process sends to the other nodes.
 
-ghost use Rattle.std.specs.Prelude.{◌≡◌, ◌∷◌, [], OnOk};
-ghost use Rattle.serving.specs.Outgoing.{IsFrameOf, IsPacketOf, IsRightlySent};
+ghost use Rattle.std.specs.Prelude.{◌≡◌, ◌∷◌, [], OnOk, IfOk, MatchBool};
+ghost use Rattle.serving.specs.Learning.{Learns};
+ghost use Rattle.serving.specs.Outgoing.{AreFramesOf, ArePacketsOf, IsFrameOf, IsPacketOf, IsRightlySent};
 ghost use Rattle.serving.specs.Owing.{AllSettled, KeepsEachOver};
-ghost use Rattle.serving.specs.Serving.{PassesOnly, ServesNodes, ServesOver};
-ghost use Rattle.serving.specs.Timings.{leader_in};
+ghost use Rattle.serving.specs.Requesting.{HandsOnFirst, NoneIsDue, unmarked, unreplied};
+ghost use Rattle.serving.specs.Serving.{Passes, PassesOnly, ServesNodes, ServesOver};
+ghost use Rattle.serving.specs.Timings.{all_own_seen, leader_in, own_seen};
 
 use super::Server;
 use crate::desk::Desk;
@@ -17,6 +19,7 @@ use std::alloc::Global;
 use wire::{Frame, Message};
 
 impl<S: Stable + Drop> Server<S> {
+    ghost use Rattle.std.specs.Prelude.{ℕ};
     ghost use Rattle.life.specs.Seen.{life_of};
     ghost use Rattle.serving.specs.Seen.{server_of};
 
@@ -34,6 +37,9 @@ impl<S: Stable + Drop> Server<S> {
         ensures settled { OnOk result (AllSettled (life_of self.old.life).held.replies self.new.waiting.claims) }
         ensures node { OnOk result ((life_of self.new.life).node ≡ (life_of self.old.life).node) }
         ensures frames { OnOk result (PassesOnly N.tape N.Tells (IsFrameOf (life_of self.old.life).held.frames) network.old network.new) }
+        ensures all { OnOk result (Passes N.tape N.Tells (AreFramesOf (life_of self.old.life).held.frames) network.old network.new) }
+        ensures requests { OnOk result (self.new.requests ≡ unreplied (life_of self.old.life).held.replies self.old.requests) }
+        ensures learns { OnOk result (Learns N.tape N.Tells self.old network.old self.new network.new) }
     {
         let Told {
             frames,
@@ -56,6 +62,9 @@ impl<S: Stable + Drop> Server<S> {
     ) -> Result<(), TurnFault>
         ensures sends { PassesOnly N.tape N.Tells (IsFrameOf frames.now) network.old network.new }
         ensures same { server_of self.new ≡ server_of self.old }
+        ensures all { OnOk result (Passes N.tape N.Tells (AreFramesOf frames.now) network.old network.new) }
+        ensures seen { OnOk result (self.new.timing ≡ all_own_seen frames.now now self.old.timing) }
+        ensures learns { OnOk result (Learns N.tape N.Tells self.old network.old self.new network.new) }
     {
         'frames: for frame in frames.iter() {
             self.note_sent(alloc, frame, now)?;
@@ -66,7 +75,9 @@ impl<S: Stable + Drop> Server<S> {
 
     // What its own frames tell: of its campaigns, and of its votes.
     fn note_sent(&mut self, alloc: Global, frame: &Frame, now: u64) -> Result<(), TurnFault>
-        ensures { server_of self.new ≡ server_of self.old }
+        ensures same { server_of self.new ≡ server_of self.old }
+        ensures seen { OnOk result (self.new.timing ≡ own_seen frame.now.message now self.old.timing) }
+        ensures node { (self.new.own ≡ self.old.own) × (self.new.nodes ≡ self.old.nodes) }
     {
         if let Some(slot) = frame.voted_slot() {
             self.timing.see_vote(slot);
@@ -93,8 +104,11 @@ impl<S: Stable + Drop> Server<S> {
         ensures none { self.old.requests ≡ [] → self.new.requests ≡ [] }
         ensures sends { OnOk result (PassesOnly N.tape N.Tells (IsRightlySent (leader_in self.old.timing) self.old.own)
             network.old network.new) }
+        ensures keeps { unmarked self.new.requests ≡ unmarked self.old.requests }
+        ensures all { OnOk result (NoneIsDue now self.new.requests) }
+        ensures learns { OnOk result (Learns N.tape N.Tells self.old network.old self.new network.new) }
     {
-        'packets: for _ in 0..u64::MAX {
+        'packets: for _ in 0..self.requests.count() {
             if !self.hand_on_next(alloc, network, now)? {
                 return Ok(());
             }
@@ -116,6 +130,11 @@ impl<S: Stable + Drop> Server<S> {
         ensures none { self.old.requests ≡ [] → self.new.requests ≡ [] }
         ensures sends { OnOk result (PassesOnly N.tape N.Tells (IsRightlySent (leader_in self.old.timing) self.old.own)
             network.old network.new) }
+        ensures keeps { unmarked self.new.requests ≡ unmarked self.old.requests }
+        ensures first { IfOk result (λ has_handed. MatchBool has_handed
+            ((place : ℕ) × HandsOnFirst now place self.old.requests self.new.requests)
+            ((self.new.requests ≡ self.old.requests) × NoneIsDue now self.old.requests)) }
+        ensures learns { OnOk result (Learns N.tape N.Tells self.old network.old self.new network.new) }
     {
         let Some(place) = self.requests.next_due(now) else {
             return Ok(false);
@@ -131,7 +150,9 @@ impl<S: Stable + Drop> Server<S> {
         network: &mut N,
         packet: &[u8],
     ) -> Result<(), TurnFault>
-        ensures { PassesOnly N.tape N.Tells (IsPacketOf (leader_in self.now.timing) self.now.own packet.now) network.old network.new }
+        ensures only { PassesOnly N.tape N.Tells (IsPacketOf (leader_in self.now.timing) self.now.own packet.now) network.old network.new }
+        ensures all { OnOk result (Passes N.tape N.Tells
+            (ArePacketsOf (leader_in self.now.timing) self.now.own packet.now self.now.nodes) network.old network.new) }
     {
         let leader = self.timing.leader();
         'nodes: for node in 0..self.nodes.count() {
@@ -146,7 +167,8 @@ impl<S: Stable + Drop> Server<S> {
 
 // The frame goes to its receiver.
 fn send_frame<N: Network>(alloc: Global, network: &mut N, frame: &Frame) -> Result<(), TurnFault>
-    ensures { PassesOnly N.tape N.Tells (IsFrameOf (frame.now ∷ [])) network.old network.new }
+    ensures only { PassesOnly N.tape N.Tells (IsFrameOf (frame.now ∷ [])) network.old network.new }
+    ensures all { OnOk result (Passes N.tape N.Tells (AreFramesOf (frame.now ∷ [])) network.old network.new) }
 {
     let bytes = frame.bytes(alloc)?;
     network.send(alloc, frame.receiver(), bytes.as_slice())?;

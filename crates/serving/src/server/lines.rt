@@ -5,8 +5,9 @@ ghost use Rattle.clients.specs.AnswerLines.{answer_line};
 ghost use Rattle.clients.specs.ClientLines.{IsClientFault, IsClientLine};
 ghost use Rattle.clients.specs.declared.line.ClientLine.TheVariants as client_line;
 ghost use Rattle.serving.specs.Knowing.{IsPosition};
-ghost use Rattle.serving.specs.Owing.{KeepsEach, KeepsEachOver};
-ghost use Rattle.serving.specs.Serving.{Serves, ServesClients};
+ghost use Rattle.serving.specs.Learning.{KnowsAsMuch};
+ghost use Rattle.serving.specs.Owing.{HasRoom, KeepsEach, KeepsEachOver};
+ghost use Rattle.serving.specs.Serving.{PassesOnly, Serves, ServesClients};
 ghost use Rattle.serving.specs.Staying.{StaysUp};
 ghost use Rattle.serving.specs.Submitting.{IsSubmitted};
 ghost use Rattle.serving.specs.Tapes.{Heard, heard};
@@ -40,6 +41,7 @@ impl<S: Stable + Drop> Server<S> {
         ensures serves { ServesClients S.Stable D.tape D.Tells (server_of self.old) desk.old (server_of self.new) desk.new }
         ensures each { OnOk result (KeepsEachOver D.tape D.Tells self.old.waiting desk.old self.new.waiting desk.new) }
         ensures stays { OnOk result (StaysUp (life_of self.old.life).node (life_of self.new.life).node) }
+        ensures knows { KnowsAsMuch self.old self.new }
     {
         'lines: for _ in 0..MOST_IN_A_TURN {
             if !self.take_next_line(alloc, desk)? {
@@ -54,6 +56,8 @@ impl<S: Stable + Drop> Server<S> {
         ensures serves { ServesClients S.Stable D.tape D.Tells (server_of self.old) desk.old (server_of self.new) desk.new }
         ensures each { OnOk result (KeepsEachOver D.tape D.Tells self.old.waiting desk.old self.new.waiting desk.new) }
         ensures stays { OnOk result (StaysUp (life_of self.old.life).node (life_of self.new.life).node) }
+        ensures room { PassesOnly D.tape D.Tells (HasRoom self.old.waiting) desk.old desk.new }
+        ensures knows { KnowsAsMuch self.old self.new }
     {
         let came = desk.next(alloc, &self.waiting)?;
         let Some(what) = came else {
@@ -68,6 +72,7 @@ impl<S: Stable + Drop> Server<S> {
         ensures serves { Serves S.Stable (server_of self.old) [] (heard what ∷ []) (server_of self.new) }
         ensures each { OnOk result (KeepsEach (heard what ∷ []) self.old.waiting self.new.waiting) }
         ensures stays { OnOk result (StaysUp (life_of self.old.life).node (life_of self.new.life).node) }
+        ensures knows { KnowsAsMuch self.old self.new }
     {
         match what {
             Came::Line { connection, text } => self.take_line(alloc, connection, text.as_slice()),
@@ -83,6 +88,7 @@ impl<S: Stable + Drop> Server<S> {
         ensures serves { Serves S.Stable (server_of self.old) [] (Heard connection text.now ∷ []) (server_of self.new) }
         ensures each { OnOk result (KeepsEach (Heard connection text.now ∷ []) self.old.waiting self.new.waiting) }
         ensures stays { OnOk result (StaysUp (life_of self.old.life).node (life_of self.new.life).node) }
+        ensures knows { KnowsAsMuch self.old self.new }
     {
         match read_line(alloc, text) {
             Ok(asked) => self.take_asked(alloc, connection, asked, text),
@@ -102,6 +108,7 @@ impl<S: Stable + Drop> Server<S> {
         ensures serves { Serves S.Stable (server_of self.old) [] (Heard connection text.now ∷ []) (server_of self.new) }
         ensures each { OnOk result (KeepsEach (Heard connection text.now ∷ []) self.old.waiting self.new.waiting) }
         ensures stays { OnOk result (StaysUp (life_of self.old.life).node (life_of self.new.life).node) }
+        ensures knows { KnowsAsMuch self.old self.new }
     {
         match asked {
             ClientLine::Submit(submission) => self.submit(alloc, connection, submission, text),
@@ -130,6 +137,7 @@ impl<S: Stable + Drop> Server<S> {
         ensures serves { Serves S.Stable (server_of self.old) [] (Heard connection text.now ∷ []) (server_of self.new) }
         ensures each { OnOk result (KeepsEach (Heard connection text.now ∷ []) self.old.waiting self.new.waiting) }
         ensures stays { OnOk result (StaysUp (life_of self.old.life).node (life_of self.new.life).node) }
+        ensures knows { KnowsAsMuch self.old self.new }
     {
         if let ReplayCause::World(WorldFault::Memory) = cause {
             return Err(TurnFault::Memory);
@@ -150,6 +158,7 @@ impl<S: Stable + Drop> Server<S> {
         ensures serves { Serves S.Stable (server_of self.old) [] (Heard connection text.now ∷ []) (server_of self.new) }
         ensures each { OnOk result (KeepsEach (Heard connection text.now ∷ []) self.old.waiting self.new.waiting) }
         ensures stays { OnOk result (StaysUp (life_of self.old.life).node (life_of self.new.life).node) }
+        ensures knows { KnowsAsMuch self.old self.new }
     {
         let line = answer.spell(alloc)?;
         self.waiting.add_due(Due::Line { connection, line })?;
@@ -169,6 +178,7 @@ impl<S: Stable + Drop> Server<S> {
         ensures each { OnOk result (KeepsEach (Heard connection text.now ∷ []) self.old.waiting self.new.waiting) }
         ensures stays { OnOk result (StaysUp (life_of self.old.life).node (life_of self.new.life).node) }
         ensures outcome { OnOk result (IsSubmitted S.Stable (server_of self.old) connection submission (server_of self.new)) }
+        ensures knows { KnowsAsMuch self.old self.new }
     {
         let client = submission.client;
         let number = submission.number.value();
@@ -209,6 +219,7 @@ impl<S: Stable + Drop> Server<S> {
         ensures serves { Serves S.Stable (server_of self.old) [] (Heard connection text.now ∷ []) (server_of self.new) }
         ensures each { OnOk result (KeepsEach (Heard connection text.now ∷ []) self.old.waiting self.new.waiting) }
         ensures stays { OnOk result (StaysUp (life_of self.old.life).node (life_of self.new.life).node) }
+        ensures knows { KnowsAsMuch self.old self.new }
     {
         let from = least_position(position);
         self.waiting.add_due(Due::Answer(Question {

@@ -1,9 +1,12 @@
-use Rattle.std.proofs.Common.{refl, ◌∙◌}
+use Rattle.std.proofs.Common.{◌≡◌, ℕ, List, refl, sym, subst, ◌∙◌}
 use Rattle.serving.specs.Outgoing.{IsRightlySent}
+use Rattle.serving.specs.Requesting.{HandsOnFirst, NoneIsDue, RequestState}
 use Rattle.serving.specs.Seen.{server_of}
 use Rattle.serving.specs.Timings.{leader_in}
 use Rattle.serving.proofs.Passing.{nodes_none, nodes_then, only_none}
 use Rattle.serving.proofs.HandingOn.{rightly_from}
+use Rattle.serving.proofs.Requested.{none_due_first, none_due_more}
+use Rattle.serving.proofs.Learning.{as_much, learns_nothing, learns_then}
 use Rattle.serving.proofs.server.Server.hand_on.Goals as goal
 
 pub packets-init : goal.packets-init
@@ -15,6 +18,9 @@ packets-init g c = (
   refl,
   λ none. none,
   only_none g.N.Network.tape g.N.Network.Tells (IsRightlySent (leader_in c.args.self.now.timing) c.args.self.now.own) c.args.network.now,
+  refl,
+  none_due_first c.args.now c.args.self.now.requests,
+  learns_nothing g.N.Network.tape g.N.Network.Tells c.args.self.now c.args.self.now c.args.network.now (as_much c.args.self.now),
 )
 
 pub returns-in_err-hand_on_next-clause-serves : goal.returns-in_err-hand_on_next-clause-serves
@@ -29,13 +35,34 @@ returns-then-not-branch-clause-sends g c =
     _ _ _ c.packets.invariant.3 c.packets.invariant.4 c.packets.invariant.6 c.in_ok-hand_on_next.ensures.sends
 
 pub packets-preserved : goal.packets-preserved
-packets-preserved g c = (
-  nodes_then g.S.Stable g.N.Network.tape g.N.Network.Tells _ _ _ _ _ _ c.packets.invariant.0 c.hand_on_next.ensures.serves,
-  c.hand_on_next.ensures.waits ∙ c.packets.invariant.1,
-  c.hand_on_next.ensures.life ∙ c.packets.invariant.2,
-  c.hand_on_next.ensures.knows.0 ∙ c.packets.invariant.3,
-  c.hand_on_next.ensures.knows.1 ∙ c.packets.invariant.4,
-  λ none. c.hand_on_next.ensures.none (c.packets.invariant.5 none),
-  rightly_from g.N.Network.tape g.N.Network.Tells c.args.self.now.timing c.packets.self.timing c.args.self.now.own c.packets.self.own
-      _ _ _ c.packets.invariant.3 c.packets.invariant.4 c.packets.invariant.6 c.in_ok-hand_on_next.ensures.sends,
-)
+packets-preserved g c =
+    let handed : (place : ℕ) × HandsOnFirst c.args.now place c.packets.self.requests c.hand_on_next.new.self.requests =
+    rw c.if-not-branch.false at c.in_ok-hand_on_next.ensures.first in (
+      nodes_then g.S.Stable g.N.Network.tape g.N.Network.Tells _ _ _ _ _ _ c.packets.invariant.0 c.hand_on_next.ensures.serves,
+      c.hand_on_next.ensures.waits ∙ c.packets.invariant.1,
+      c.hand_on_next.ensures.life ∙ c.packets.invariant.2,
+      c.hand_on_next.ensures.knows.0 ∙ c.packets.invariant.3,
+      c.hand_on_next.ensures.knows.1 ∙ c.packets.invariant.4,
+      λ none. c.hand_on_next.ensures.none (c.packets.invariant.5 none),
+      rightly_from g.N.Network.tape g.N.Network.Tells c.args.self.now.timing c.packets.self.timing c.args.self.now.own c.packets.self.own
+          _ _ _ c.packets.invariant.3 c.packets.invariant.4 c.packets.invariant.6 c.in_ok-hand_on_next.ensures.sends,
+      c.hand_on_next.ensures.keeps ∙ c.packets.invariant.7,
+      none_due_more c.args.now handed.0 _ _ handed.1 c.packets.counter c.packets.invariant.8,
+      learns_then g.N.Network.tape g.N.Network.Tells _ _ _ _ _ _ c.packets.invariant.9 c.in_ok-hand_on_next.ensures.learns,
+    )
+
+pub returns-then-not-branch-clause-keeps : goal.returns-then-not-branch-clause-keeps
+returns-then-not-branch-clause-keeps g c = c.hand_on_next.ensures.keeps ∙ c.packets.invariant.7
+
+pub returns-in_err-hand_on_next-clause-keeps : goal.returns-in_err-hand_on_next-clause-keeps
+returns-in_err-hand_on_next-clause-keeps g c = c.hand_on_next.ensures.keeps ∙ c.packets.invariant.7
+
+pub returns-then-not-branch-clause-learns : goal.returns-then-not-branch-clause-learns
+returns-then-not-branch-clause-learns g c =
+    learns_then g.N.Network.tape g.N.Network.Tells _ _ _ _ _ _ c.packets.invariant.9 c.in_ok-hand_on_next.ensures.learns
+
+pub returns-then-not-branch-clause-all : goal.returns-then-not-branch-clause-all
+returns-then-not-branch-clause-all g c =
+    let none : (c.hand_on_next.new.self.requests ≡ c.packets.self.requests) × NoneIsDue c.args.now c.packets.self.requests =
+    rw c.if-not-branch.true at c.in_ok-hand_on_next.ensures.first in
+    subst (λ (rs : List RequestState). NoneIsDue c.args.now rs) (sym none.0) none.1

@@ -4,7 +4,12 @@ use Rattle.serving.specs.Outgoing.{IsPacketOf, IsRightlySent}
 use Rattle.serving.specs.Timings.{leader_in}
 use Rattle.serving.proofs.HandingOn.{packet_right}
 use Rattle.serving.proofs.Passing.{only_none, only_weaker}
+use Rattle.serving.proofs.Requested.{unmarked_same}
 use Rattle.serving.proofs.Ripening.{none_handed_on}
+use Rattle.serving.specs.Requesting.{unmarked}
+use Rattle.std.proofs.Common.{ap}
+use Rattle.serving.proofs.Learning.{learns_nothing, learns_requests}
+use Rattle.std.proofs.Common.{refl}
 use Rattle.serving.proofs.server.Server.hand_on_next.Goals as goal
 
 pub returns-in_default-clause-serves : goal.returns-in_default-clause-serves
@@ -14,12 +19,12 @@ returns-in_default-clause-serves g c =
 pub returns-in_err-send_packet-clause-serves : goal.returns-in_err-send_packet-clause-serves
 returns-in_err-send_packet-clause-serves g c =
     nodes_handing_on g.S.Stable g.N.Network.tape g.N.Network.Tells (server_of c.args.self.now) c.next_due.new.self c.args.now c.in-Some.place (leader_in c.args.self.now.timing) c.args.self.now.own c.packet.result.now c.args.network.now c.send_packet.new.network
-    c.in-Some.ensures.handed_on c.packet.ensures c.send_packet.ensures
+    c.in-Some.ensures.handed_on c.packet.ensures.packet c.send_packet.ensures.only
 
 pub returns-clause-serves : goal.returns-clause-serves
 returns-clause-serves g c =
     nodes_handing_on g.S.Stable g.N.Network.tape g.N.Network.Tells (server_of c.args.self.now) c.next_due.new.self c.args.now c.in-Some.place (leader_in c.args.self.now.timing) c.args.self.now.own c.packet.result.now c.args.network.now c.send_packet.new.network
-    c.in-Some.ensures.handed_on c.packet.ensures c.send_packet.ensures
+    c.in-Some.ensures.handed_on c.packet.ensures.packet c.send_packet.ensures.only
 
 pub returns-in_default-clause-sends : goal.returns-in_default-clause-sends
 returns-in_default-clause-sends g c =
@@ -30,10 +35,36 @@ returns-clause-sends g c =
     let leader = leader_in c.args.self.now.timing in
     let own = c.args.self.now.own in
     only_weaker g.N.Network.tape g.N.Network.Tells (IsPacketOf leader own c.packet.result.now) (IsRightlySent leader own)
-    (packet_right leader own c.packet.result.now) _ _ c.send_packet.ensures
+    (packet_right leader own c.packet.result.now) _ _ c.send_packet.ensures.only
 
 pub returns-in_err-send_packet-clause-none : goal.returns-in_err-send_packet-clause-none
 returns-in_err-send_packet-clause-none g c = none_handed_on c.args.now c.in-Some.place _ _ c.in-Some.ensures.handed_on
 
 pub returns-clause-none : goal.returns-clause-none
 returns-clause-none g c = none_handed_on c.args.now c.in-Some.place _ _ c.in-Some.ensures.handed_on
+
+pub returns-in_default-clause-keeps : goal.returns-in_default-clause-keeps
+returns-in_default-clause-keeps g c = ap unmarked c.in_default.ensures.unchanged
+
+pub returns-in_err-send_packet-clause-keeps : goal.returns-in_err-send_packet-clause-keeps
+returns-in_err-send_packet-clause-keeps g c = unmarked_same c.args.now c.in-Some.place _ _ c.in-Some.ensures.handed_on
+
+pub returns-clause-keeps : goal.returns-clause-keeps
+returns-clause-keeps g c = unmarked_same c.args.now c.in-Some.place _ _ c.in-Some.ensures.handed_on
+
+pub returns-in_default-clause-first : goal.returns-in_default-clause-first
+returns-in_default-clause-first g c = (c.in_default.ensures.unchanged, c.in_default.ensures.none)
+
+pub returns-clause-first : goal.returns-clause-first
+returns-clause-first g c = (c.in-Some.place, c.in-Some.ensures.handed_on)
+
+pub returns-in_default-clause-learns : goal.returns-in_default-clause-learns
+returns-in_default-clause-learns g c =
+    learns_nothing g.N.Network.tape g.N.Network.Tells c.args.self.now (record c.args.self.now { requests = c.next_due.new.self })
+    c.args.network.now (refl, refl, refl)
+
+pub returns-clause-learns : goal.returns-clause-learns
+returns-clause-learns g c =
+    learns_requests g.N.Network.tape g.N.Network.Tells c.args.self.now (record c.args.self.now { requests = c.next_due.new.self })
+    c.args.network.now c.send_packet.new.network (leader_in c.args.self.now.timing) c.args.self.now.own c.packet.result.now
+    (refl, refl, refl) c.packet.ensures.marked c.send_packet.ensures.only

@@ -1,7 +1,7 @@
 use Rattle.std.proofs.Common.{[], subst}
 use Rattle.serving.specs.Seen.{server_of}
 use Rattle.life.specs.Seen.{life_of}
-use Rattle.serving.proofs.Checkpointing.{IsFloor, checkpointed_already, checkpointed_now, checkpointed_still}
+use Rattle.serving.proofs.Checkpointing.{IsFloor, checkpointed_already, checkpointed_now, checkpointed_still, not_checkpointed}
 use Rattle.serving.proofs.Leading.{serves_none, serves_then}
 use Rattle.serving.proofs.Staying.{stays_itself, stays_then}
 use Rattle.serving.proofs.server.Server.keep_records.Goals as goal
@@ -37,3 +37,31 @@ returns-clause-checkpoints g c =
     (checkpointed_now g.S.Stable (life_of c.args.self.now.life).node _ c.position.result c.floor.result c.in_ok-give.ensures.gives
     c.position.ensures (subst (λ n. IsFloor n c.floor.result) c.node.ensures c.floor.ensures)
     (c.is_checkpoint_due.ensures.0 c.if-not-is_checkpoint_due.false))
+
+pub returns-then-not-is_checkpoint_due-clause-due : goal.returns-then-not-is_checkpoint_due-clause-due
+returns-then-not-is_checkpoint_due-clause-due g c = λ due. absurd (due
+    (checkpointed_already g.S.Stable (life_of c.args.self.now.life).node c.is_checkpoint_due.result c.position.result c.floor.result
+    c.position.ensures (subst (λ n. IsFloor n c.floor.result) c.node.ensures c.floor.ensures) c.if-not-is_checkpoint_due.true
+    c.is_checkpoint_due.ensures))
+
+pub returns-clause-due : goal.returns-clause-due
+returns-clause-due g c = λ due.
+    ((life_of c.give.new.self.life).node, c.in_ok-give.ensures.gives, c.in_ok-give-2.ensures.gives)
+
+pub returns-in_err-give-clause-idle : goal.returns-in_err-give-clause-idle
+returns-in_err-give-clause-idle g c = λ checkpointed.
+    absurd (not_checkpointed (life_of c.args.self.now.life).node c.position.result c.floor.result c.position.ensures
+    (subst (λ n. IsFloor n c.floor.result) c.node.ensures c.floor.ensures)
+    (c.is_checkpoint_due.ensures.0 c.if-not-is_checkpoint_due.false) checkpointed)
+
+pub returns-in_err-give-2-clause-idle : goal.returns-in_err-give-2-clause-idle
+returns-in_err-give-2-clause-idle g c = λ checkpointed.
+    absurd (not_checkpointed (life_of c.args.self.now.life).node c.position.result c.floor.result c.position.ensures
+    (subst (λ n. IsFloor n c.floor.result) c.node.ensures c.floor.ensures)
+    (c.is_checkpoint_due.ensures.0 c.if-not-is_checkpoint_due.false) checkpointed)
+
+pub returns-clause-idle : goal.returns-clause-idle
+returns-clause-idle g c = λ checkpointed.
+    absurd (not_checkpointed (life_of c.args.self.now.life).node c.position.result c.floor.result c.position.ensures
+    (subst (λ n. IsFloor n c.floor.result) c.node.ensures c.floor.ensures)
+    (c.is_checkpoint_due.ensures.0 c.if-not-is_checkpoint_due.false) checkpointed)

@@ -7,10 +7,12 @@ use Rattle.serving.proofs.Holding.{less_itself}
 use Rattle.serving.proofs.Passing.{only_none}
 use Rattle.world_model.specs.declared.lists.Replied.{Replied}
 use Rattle.wire.specs.declared.frames.envelope.Envelope.{Envelope}
-use Rattle.serving.specs.Outgoing.{IsFrameOf}
+use Rattle.serving.specs.Outgoing.{AreFramesOf, IsFrameOf}
 use Rattle.serving.specs.Owing.{AllSettled, KeepsEachOver}
-use Rattle.serving.specs.Serving.{PassesOnly}
+use Rattle.serving.specs.Requesting.{unreplied}
+use Rattle.serving.specs.Serving.{Passes, PassesOnly}
 use Rattle.serving.specs.Waitings.{WaitingState}
+use Rattle.serving.proofs.Learning.{learns_same_from, learns_still}
 use Rattle.serving.proofs.server.Server.let_out.Goals as goal
 
 pub returns-in_err-send_frames-clause-serves : goal.returns-in_err-send_frames-clause-serves
@@ -53,3 +55,22 @@ pub returns-clause-frames : goal.returns-clause-frames
 returns-clause-frames g c =
     subst (λ (fs : List Envelope). PassesOnly g.N.Network.tape g.N.Network.Tells (IsFrameOf fs) c.args.network.now c.send_frames.new.network)
     (c.as_slice.ensures.value ∙ ap (λ (t : ToldLists). t.frames) c.hand_out-frames.ensures.told) c.send_frames.ensures.sends
+
+pub returns-clause-all : goal.returns-clause-all
+returns-clause-all g c =
+    subst (λ (fs : List Envelope). Passes g.N.Network.tape g.N.Network.Tells (AreFramesOf fs) c.args.network.now c.send_frames.new.network)
+    (c.as_slice.ensures.value ∙ ap (λ (t : ToldLists). t.frames) c.hand_out-frames.ensures.told) c.in_ok-send_frames.ensures.all
+
+pub returns-clause-requests : goal.returns-clause-requests
+returns-clause-requests g c =
+    c.in_ok-tell_replies.ensures.requests
+    ∙ ap (λ (rs : List Replied). unreplied rs c.send_frames.new.self.requests)
+    (c.as_slice-2.ensures.value ∙ ap (λ (t : ToldLists). t.replies) c.hand_out-frames.ensures.told)
+    ∙ ap (unreplied (life_of c.args.self.now.life).held.replies) (ap (λ s. s.requests) c.send_frames.ensures.same)
+
+pub returns-clause-learns : goal.returns-clause-learns
+returns-clause-learns g c =
+    learns_still g.N.Network.tape g.N.Network.Tells c.args.self.now c.send_frames.new.self c.tell_replies.new.self _ _
+    (learns_same_from g.N.Network.tape g.N.Network.Tells c.args.self.now (record c.args.self.now { life = c.hand_out-frames.new.self })
+    c.send_frames.new.self _ _ refl refl refl c.in_ok-send_frames.ensures.learns)
+    c.tell_replies.ensures.knows

@@ -1,25 +1,30 @@
-use Rattle.std.proofs.Common.{ℕ, Option, refl, subst, sym}
+use Rattle.std.proofs.Common.{◌≡◌, ◌∙◌, ℕ, [], ◌∷◌, ◌++◌, Option, ap, refl, subst, sym}
 use Rattle.serving.specs.HandingOn.{IsHandedTo}
-use Rattle.serving.specs.Outgoing.{IsPacketOf}
-use Rattle.serving.specs.Tapes.{Sent}
+use Rattle.serving.specs.Outgoing.{ArePacketsOf, IsPacketOf}
+use Rattle.serving.specs.Outgoing.ArePacketsOf.{none}
+use Rattle.serving.specs.Tapes.{Carried, Sent}
 use Rattle.serving.specs.Timings.{leader_in}
 use Rattle.serving.proofs.Passing.{only_none, only_one_by, only_then}
+use Rattle.serving.proofs.Sending.{all_none, packet_past, packet_to}
 use Rattle.serving.proofs.server.Server.send_packet.Goals as goal
 
 pub nodes-init : goal.nodes-init
-nodes-init g c =
-    only_none g.N.Network.tape g.N.Network.Tells (IsPacketOf (leader_in c.args.self.now.timing) c.args.self.now.own c.args.packet.now)
-    c.args.network.now
+nodes-init g c = (
+  only_none g.N.Network.tape g.N.Network.Tells (IsPacketOf (leader_in c.args.self.now.timing) c.args.self.now.own c.args.packet.now)
+      c.args.network.now,
+  all_none g.N.Network.tape g.N.Network.Tells (ArePacketsOf (leader_in c.args.self.now.timing) c.args.self.now.own c.args.packet.now 0)
+      c.args.network.now none,
+)
 
-pub returns-in_err-send : goal.returns-in_err-send
-returns-in_err-send g c =
+pub returns-in_err-send-clause-only : goal.returns-in_err-send-clause-only
+returns-in_err-send-clause-only g c =
     let P = IsPacketOf (leader_in c.args.self.now.timing) c.args.self.now.own c.args.packet.now in
     let handed : IsHandedTo (leader_in c.args.self.now.timing) c.args.self.now.own c.node.result =
     subst (λ (n : ℕ). IsHandedTo (leader_in c.args.self.now.timing) c.args.self.now.own n) (sym c.node.ensures)
     (subst (λ (o : Option ℕ). IsHandedTo o c.args.self.now.own c.nodes.node) c.leader-leader.ensures
     (subst (λ (n : ℕ). IsHandedTo c.leader-leader.result n c.nodes.node) c.value.ensures.value
     (c.is_handed_to.ensures.0 c.if-not-is_handed_to.false))) in
-    only_then g.N.Network.tape g.N.Network.Tells P _ _ _ c.nodes.invariant
+    only_then g.N.Network.tape g.N.Network.Tells P _ _ _ c.nodes.invariant.0
     (only_one_by g.N.Network.tape g.N.Network.Tells P c.nodes.network c.send.new.self (Sent c.node.result c.args.packet.now)
     c.send.ensures.tape c.send.ensures.told (refl, handed))
 
@@ -31,6 +36,25 @@ nodes-preserved g c =
     (subst (λ (o : Option ℕ). IsHandedTo o c.args.self.now.own c.nodes.node) c.leader-leader.ensures
     (subst (λ (n : ℕ). IsHandedTo c.leader-leader.result n c.nodes.node) c.value.ensures.value
     (c.is_handed_to.ensures.0 c.if-not-is_handed_to.false))) in
-    only_then g.N.Network.tape g.N.Network.Tells P _ _ _ c.nodes.invariant
-    (only_one_by g.N.Network.tape g.N.Network.Tells P c.nodes.network c.send.new.self (Sent c.node.result c.args.packet.now)
-    c.send.ensures.tape c.send.ensures.told (refl, handed))
+    let sent : Sent c.node.result c.args.packet.now ≡ Sent c.nodes.node c.args.packet.now =
+    ap (λ (n : ℕ). Sent n c.args.packet.now) c.node.ensures in (
+      only_then g.N.Network.tape g.N.Network.Tells P _ _ _ c.nodes.invariant.0
+          (only_one_by g.N.Network.tape g.N.Network.Tells P c.nodes.network c.send.new.self (Sent c.node.result c.args.packet.now)
+          c.send.ensures.tape c.send.ensures.told (refl, handed)),
+      packet_to g.N.Network.tape g.N.Network.Tells (leader_in c.args.self.now.timing) c.args.self.now.own c.args.packet.now c.nodes.node
+          _ c.nodes.network c.send.new.self (subst (λ (n : ℕ). IsHandedTo (leader_in c.args.self.now.timing) c.args.self.now.own n) c.node.ensures handed)
+          c.nodes.invariant.1
+          (λ tells. c.send.ensures.tape tells ∙ ap (λ (x : Carried). g.N.Network.tape c.nodes.network ++ x ∷ []) sent) c.send.ensures.told,
+    )
+
+pub nodes-preserved-then-not-is_handed_to : goal.nodes-preserved-then-not-is_handed_to
+nodes-preserved-then-not-is_handed_to g c =
+    let not_handed : ¬ IsHandedTo (leader_in c.args.self.now.timing) c.args.self.now.own c.nodes.node = λ handed.
+    let yes = c.is_handed_to.ensures.1 (subst (λ (n : ℕ). IsHandedTo c.leader-leader.result n c.nodes.node) (sym c.value.ensures.value)
+    (subst (λ (o : Option ℕ). IsHandedTo o c.args.self.now.own c.nodes.node) (sym c.leader-leader.ensures) handed)) in
+    let no = c.if-not-is_handed_to.true in
+    absurd (cc) in (
+      c.nodes.invariant.0,
+      packet_past g.N.Network.tape g.N.Network.Tells (leader_in c.args.self.now.timing) c.args.self.now.own c.args.packet.now c.nodes.node
+          _ _ not_handed c.nodes.invariant.1,
+    )

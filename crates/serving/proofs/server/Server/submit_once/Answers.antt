@@ -1,4 +1,4 @@
-use Rattle.std.proofs.Common.{◌≡◌, ◌≤◌, ℕ, true, refl, subst, sym}
+use Rattle.std.proofs.Common.{◌≡◌, ◌≤◌, ℕ, true, inl, inr, refl, subst, sym}
 use Rattle.serving.specs.Seen.{server_of}
 use Rattle.life.specs.Seen.{life_of}
 use Rattle.life.specs.Lives.{Does}
@@ -6,7 +6,10 @@ use Rattle.node_model.specs.declared.input.Input.{Input}
 use Rattle.world_model.specs.Lives.{Took}
 use Rattle.serving.specs.Turns.{handed_on}
 use Rattle.serving.proofs.Coming.{serves_handed_on, serves_passing_over}
+use Rattle.serving.proofs.Checkpointing.{was_given}
+use Rattle.serving.proofs.Packets.{has_last}
 use Rattle.serving.proofs.Staying.{stays_taking}
+use Rattle.node_model.specs.declared.input.Input.TheVariants as input
 use Rattle.serving.proofs.server.Server.submit_once.Goals as goal
 
 pub returns-then-has_counted-clause-serves : goal.returns-then-has_counted-clause-serves
@@ -49,3 +52,20 @@ pub returns-clause-stays : goal.returns-clause-stays
 returns-clause-stays g c =
     stays_taking g.S.Stable (life_of c.args.self.now.life) (life_of c.take.new.self) c.input_of.result c.take.result
     c.in_ok-refusal.field-0 c.take.ensures c.in_ok-refusal.ensures
+
+pub returns-then-has_counted-clause-taken : goal.returns-then-has_counted-clause-taken
+returns-then-has_counted-clause-taken g c =
+    let last = has_last (life_of c.args.self.now.life).node c.args.submission.client in
+    inl (
+      last.0,
+      last.1,
+      subst (λ (n : ℕ). n ≤ last.0) c.value.ensures.value ((c.has_counted.ensures last.0 last.1).0 c.if-has_counted.true),
+      refl,
+    )
+
+pub returns-clause-taken : goal.returns-clause-taken
+returns-clause-taken g c =
+    let given : Input = input.Submit c.args.submission.client c.args.submission.number c.args.submission.op in
+    inr (was_given g.S.Stable (life_of c.args.self.now.life) (life_of c.take.new.self) given c.take.result c.in_ok-refusal.field-0
+    (subst (λ (i : Input). Does g.S.Stable (life_of c.args.self.now.life) (Took i) c.take.result (life_of c.take.new.self)) c.input_of.ensures
+    c.take.ensures) c.in_ok-refusal.ensures)

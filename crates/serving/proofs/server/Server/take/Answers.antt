@@ -2,6 +2,7 @@ use Rattle.std.proofs.Common.{◌∙◌}
 use Rattle.serving.proofs.KeepingEachOver.{each_from, each_waits}
 use Rattle.serving.proofs.Passing.{over_kept, over_nodes, over_told}
 use Rattle.serving.proofs.Staying.{stays_then}
+use Rattle.serving.proofs.Learning.{as_much_then, learns_still}
 use Rattle.serving.proofs.server.Server.take.Goals as goal
 
 pub returns-in_err-more_frames-clause-serves : goal.returns-in_err-more_frames-clause-serves
@@ -51,3 +52,12 @@ returns-clause-each g c =
 pub returns-clause-stays : goal.returns-clause-stays
 returns-clause-stays g c =
     stays_then g.S.Stable _ _ _ (stays_then g.S.Stable _ _ _ (stays_then g.S.Stable _ _ _ (stays_then g.S.Stable _ _ _ (c.in_ok-more_frames.ensures.stays) c.in_ok-more_lines.ensures.stays) c.in_ok-keep_time.ensures.stays) c.in_ok-take_own.ensures.stays) c.in_ok-keep_records.ensures.stays
+
+pub returns-clause-learns : goal.returns-clause-learns
+returns-clause-learns g c =
+    learns_still g.N.Network.tape g.N.Network.Tells c.args.self.now c.take_frames.new.self c.keep_records.new.self _ _
+    c.in_ok-more_frames.ensures.learns
+    (as_much_then c.take_frames.new.self c.take_own.new.self c.keep_records.new.self
+    (as_much_then c.take_frames.new.self c.keep_time.new.self c.take_own.new.self
+    (as_much_then c.take_frames.new.self c.take_lines.new.self c.keep_time.new.self c.take_lines.ensures.knows c.keep_time.ensures.knows)
+    c.take_own.ensures.knows) c.keep_records.ensures.knows)

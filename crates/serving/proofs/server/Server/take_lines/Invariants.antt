@@ -3,6 +3,7 @@ use Rattle.serving.specs.Owing.{KeepsEachOver}
 use Rattle.serving.specs.Serving.{ServesClients}
 use Rattle.life.specs.Seen.{life_of}
 use Rattle.serving.specs.Staying.{StaysUp}
+use Rattle.serving.specs.Learning.{KnowsAsMuch}
 use Rattle.serving.proofs.server.Server.take_lines.Given as goal
 
 abbrev pub invariant-lines : goal.invariant-lines
@@ -10,3 +11,4 @@ invariant-lines g l =
     ServesClients g.S.Stable g.D.Desk.tape g.D.Desk.Tells (server_of l.initial.self) l.initial.desk (server_of l.self) l.desk
     × KeepsEachOver g.D.Desk.tape g.D.Desk.Tells l.initial.self.waiting l.initial.desk l.self.waiting l.desk
     × StaysUp (life_of l.initial.self.life).node (life_of l.self.life).node
+    × KnowsAsMuch l.initial.self l.self

@@ -1,7 +1,8 @@
 use Rattle.std.proofs.Common.{Ok, ap, ◌∙◌, [], ◌∷◌, refl}
 use Rattle.serving.specs.Seen.{server_of}
 use Rattle.serving.specs.Tapes.{heard, heard_in}
-use Rattle.serving.proofs.Passing.{clients_read, clients_read_none, passes_as}
+use Rattle.serving.proofs.Passing.{clients_read, clients_read_none, only_read_by, passes_as}
+use Rattle.serving.specs.Owing.{HasRoom}
 use Rattle.serving.proofs.KeepingEach.{keeps_none}
 use Rattle.serving.proofs.KeepingEachOver.{each_said}
 use Rattle.serving.proofs.Staying.{stays_itself}
@@ -43,3 +44,23 @@ returns-clause-each g c =
 pub returns-in_default-clause-stays : goal.returns-in_default-clause-stays
 returns-in_default-clause-stays g c =
     stays_itself g.S.Stable (life_of c.args.self.now.life).node
+
+pub returns-in_err-came-clause-room : goal.returns-in_err-came-clause-room
+returns-in_err-came-clause-room g c =
+    only_read_by g.D.Desk.tape g.D.Desk.Tells (HasRoom c.args.self.now.waiting) c.args.desk.now c.next.new.self (heard_in c.next.result)
+    c.next.ensures.tape c.next.ensures.told c.next.ensures.room
+
+pub returns-in_default-clause-room : goal.returns-in_default-clause-room
+returns-in_default-clause-room g c =
+    only_read_by g.D.Desk.tape g.D.Desk.Tells (HasRoom c.args.self.now.waiting) c.args.desk.now c.next.new.self (heard_in c.next.result)
+    c.next.ensures.tape c.next.ensures.told c.next.ensures.room
+
+pub returns-in_err-hear-clause-room : goal.returns-in_err-hear-clause-room
+returns-in_err-hear-clause-room g c =
+    only_read_by g.D.Desk.tape g.D.Desk.Tells (HasRoom c.args.self.now.waiting) c.args.desk.now c.next.new.self (heard_in c.next.result)
+    c.next.ensures.tape c.next.ensures.told c.next.ensures.room
+
+pub returns-clause-room : goal.returns-clause-room
+returns-clause-room g c =
+    only_read_by g.D.Desk.tape g.D.Desk.Tells (HasRoom c.args.self.now.waiting) c.args.desk.now c.next.new.self (heard_in c.next.result)
+    c.next.ensures.tape c.next.ensures.told c.next.ensures.room

@@ -2,6 +2,7 @@ use Rattle.std.proofs.Common.{refl, ◌∙◌, arith}
 use Rattle.serving.specs.Seen.{server_of}
 use Rattle.serving.proofs.KeepingEachOver.{each_still, each_then}
 use Rattle.serving.proofs.Passing.{clients_none, clients_then}
+use Rattle.serving.proofs.Learning.{as_much, as_much_then}
 use Rattle.serving.proofs.server.Server.tell_due.Goals as goal
 
 pub due-init : goal.due-init
@@ -12,6 +13,7 @@ due-init g c = (
   omega arith,
   λ ripe. ripe,
   (refl, refl),
+  as_much c.args.self.now,
 )
 
 pub returns-in_err-tell_next_due-clause-serves : goal.returns-in_err-tell_next_due-clause-serves
@@ -29,4 +31,9 @@ due-preserved g c = (
     c.tell_next_due.ensures.requests.0 ∙ c.due.invariant.5.0,
     c.tell_next_due.ensures.requests.1 ∙ c.due.invariant.5.1,
   ),
+  as_much_then c.args.self.now c.due.self c.tell_next_due.new.self c.due.invariant.6 c.tell_next_due.ensures.knows,
 )
+
+pub returns-in_err-tell_next_due-clause-knows : goal.returns-in_err-tell_next_due-clause-knows
+returns-in_err-tell_next_due-clause-knows g c =
+    as_much_then c.args.self.now c.due.self c.tell_next_due.new.self c.due.invariant.6 c.tell_next_due.ensures.knows

@@ -4,6 +4,7 @@ use Rattle.serving.specs.Owing.{KeepsEachOver}
 use Rattle.serving.specs.Resting.{KeepsRequests, NoneIsRipe}
 use Rattle.serving.specs.Serving.{ServesClients}
 use Rattle.life.specs.Seen.{life_of}
+use Rattle.serving.specs.Learning.{KnowsAsMuch}
 use Rattle.serving.proofs.server.Server.tell_due.Given as goal
 
 abbrev pub invariant-due : goal.invariant-due
@@ -15,3 +16,4 @@ invariant-due g l =
     × (NoneIsRipe (life_of l.initial.self.life).node l.initial.self.waiting.questions
     → NoneIsRipe (life_of l.self.life).node l.self.waiting.questions)
     × KeepsRequests (server_of l.initial.self) (server_of l.self)
+    × KnowsAsMuch l.initial.self l.self

@@ -8,9 +8,11 @@ use Rattle.serving.proofs.Passing.{only_none, only_then, only_weaker}
 use Rattle.serving.specs.Owing.{reply_told}
 use Rattle.serving.specs.Tapes.{HasPassed}
 use Rattle.serving.proofs.KeepingEach.{keeps_settled}
+use Rattle.serving.proofs.Requested.{unreplied_more, unreplied_none}
 use Rattle.serving.proofs.Settling.{settled_more, settled_none}
 use Rattle.serving.specs.Waitings.{WaitingState}
 use Rattle.serving.proofs.KeepingEachOver.{each_said, each_still, each_then}
+use Rattle.serving.proofs.Learning.{as_much}
 use Rattle.serving.proofs.server.Server.tell_replies.Goals as goal
 
 pub replies-init : goal.replies-init
@@ -20,6 +22,8 @@ replies-init g c = (
   only_none g.D.Desk.tape g.D.Desk.Tells (IsReplyIn c.args.replies.now c.args.self.now.waiting.claims) c.args.desk.now,
   each_still g.D.Desk.tape g.D.Desk.Tells c.args.self.now.waiting c.args.self.now.waiting c.args.desk.now refl,
   settled_none c.args.self.now.waiting.claims,
+  unreplied_none c.args.self.now.requests,
+  as_much c.args.self.now,
 )
 
 pub returns-in_err-tell_reply-clause-tells : goal.returns-in_err-tell_reply-clause-tells
@@ -48,4 +52,7 @@ replies-preserved g c = (
   settled_more c.args.replies.now c.replies.replied-index c.replied-item.result c.replies-test.true c.replied-item.is
       c.replies.self.waiting.claims c.settle.new.self.claims c.value-number.result c.value-number.ensures.value
       (ap (λ (w : WaitingState). w.claims) c.settle.ensures) c.replies.invariant.4,
+  unreplied_more c.args.replies.now c.replies.replied-index c.replied-item.result c.value-number.result c.args.self.now.requests
+      c.replies.self.requests _ c.replies-test.true c.replied-item.is c.value-number.ensures.value c.replies.invariant.5 c.remove.ensures,
+  c.replies.invariant.6,
 )

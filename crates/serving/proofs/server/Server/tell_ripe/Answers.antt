@@ -4,6 +4,7 @@ use Rattle.life.specs.Seen.{life_of}
 use Rattle.serving.proofs.KeepingEachOver.{each_still, each_then}
 use Rattle.serving.proofs.Passing.{clients_none, clients_then}
 use Rattle.serving.proofs.Ripening.{none_ripe_left}
+use Rattle.serving.proofs.Learning.{as_much, as_much_then}
 use Rattle.serving.proofs.server.Server.tell_ripe.Goals as goal
 
 pub questions-init : goal.questions-init
@@ -12,6 +13,7 @@ questions-init g c = (
   each_still g.D.Desk.tape g.D.Desk.Tells c.args.self.now.waiting c.args.self.now.waiting c.args.desk.now refl,
   refl,
   omega arith,
+  as_much c.args.self.now,
 )
 
 pub returns-in_err-tell_next_ripe-clause-serves : goal.returns-in_err-tell_next_ripe-clause-serves
@@ -38,9 +40,18 @@ questions-preserved g c =
           c.in_ok-tell_next_ripe.ensures.each,
       c.in_ok-tell_next_ripe.ensures.node ∙ c.questions.invariant.2,
       omega (arith, c.questions.invariant.3, less),
+      as_much_then c.args.self.now c.questions.self c.tell_next_ripe.new.self c.questions.invariant.4 c.tell_next_ripe.ensures.knows,
     )
 
 pub returns-clause-ripe : goal.returns-clause-ripe
 returns-clause-ripe g c =
     none_ripe_left (life_of c.questions.self.life).node c.questions.self.waiting.questions c.args.self.now.waiting.questions
     c.questions.counter c.questions.invariant.3 (omega arith)
+
+pub returns-in_err-tell_next_ripe-clause-knows : goal.returns-in_err-tell_next_ripe-clause-knows
+returns-in_err-tell_next_ripe-clause-knows g c =
+    as_much_then c.args.self.now c.questions.self c.tell_next_ripe.new.self c.questions.invariant.4 c.tell_next_ripe.ensures.knows
+
+pub returns-then-not-branch-clause-knows : goal.returns-then-not-branch-clause-knows
+returns-then-not-branch-clause-knows g c =
+    as_much_then c.args.self.now c.questions.self c.tell_next_ripe.new.self c.questions.invariant.4 c.tell_next_ripe.ensures.knows

@@ -3,6 +3,7 @@ use Rattle.serving.specs.Seen.{server_of}
 use Rattle.serving.specs.Owing.{KeepsEachOver}
 use Rattle.serving.specs.Serving.{ServesClients}
 use Rattle.life.specs.Seen.{life_of}
+use Rattle.serving.specs.Learning.{KnowsAsMuch}
 use Rattle.serving.proofs.server.Server.tell_ripe.Given as goal
 
 abbrev pub invariant-questions : goal.invariant-questions
@@ -11,3 +12,4 @@ invariant-questions g l =
     × KeepsEachOver g.D.Desk.tape g.D.Desk.Tells l.initial.self.waiting l.initial.desk l.self.waiting l.desk
     × ((life_of l.self.life).node ≡ (life_of l.initial.self.life).node)
     × (length l.self.waiting.questions + l.counter ≡ length l.initial.self.waiting.questions)
+    × KnowsAsMuch l.initial.self l.self

@@ -6,6 +6,7 @@ use Rattle.serving.specs.Seen.{server_of}
 use Rattle.serving.proofs.KeepingEach.{keeps_none}
 use Rattle.serving.proofs.Leading.{serves_none, serves_then}
 use Rattle.serving.proofs.Ripening.{full_at, keeps_quietly, not_full_below, nothing_left, serves_clearing}
+use Rattle.serving.proofs.Learning.{as_much, as_much_then}
 use Rattle.serving.proofs.server.Server.turn_away.Goals as goal
 
 pub returns-then-position-lt-SLOTS-clause-serves : goal.returns-then-position-lt-SLOTS-clause-serves
@@ -25,6 +26,7 @@ claims-init g c = (
   refl,
   refl,
   omega arith,
+  as_much c.args.self.now,
 )
 
 pub turn_away_next-requires : goal.turn_away_next-requires
@@ -43,6 +45,7 @@ claims-preserved g c = (
   c.turn_away_next.ensures.life ∙ c.claims.invariant.2,
   c.turn_away_next.ensures.questions ∙ c.claims.invariant.3,
   omega (arith, c.claims.invariant.4, c.in_ok-turn_away_next.ensures.less),
+  as_much_then c.args.self.now c.claims.self c.turn_away_next.new.self c.claims.invariant.5 c.turn_away_next.ensures.knows,
 )
 
 pub returns-clause-serves : goal.returns-clause-serves
@@ -55,3 +58,7 @@ returns-clause-full g c = λ full. (
       (omega (arith, ap {B = ℕ} (λ (cs : List Claim). length cs) c.claims-end.ensures)),
   c.clear.ensures,
 )
+
+pub returns-in_err-turn_away_next-clause-knows : goal.returns-in_err-turn_away_next-clause-knows
+returns-in_err-turn_away_next-clause-knows g c =
+    as_much_then c.args.self.now c.claims.self c.turn_away_next.new.self c.claims.invariant.5 c.turn_away_next.ensures.knows

@@ -1,17 +1,18 @@
 use Rattle.std.proofs.Common.{ℕ, List, [], ◌∷◌, subst, sym}
 use Rattle.std.proofs.lemmas.List.Elements.{Contains-push}
 use Rattle.wire.specs.FrameSpelling.{IsFrame}
-use Rattle.serving.specs.Outgoing.{IsFrameOf}
+use Rattle.serving.specs.Outgoing.{AreFramesOf, IsFrameOf}
 use Rattle.serving.specs.Tapes.{Sent}
 use Rattle.serving.proofs.Passing.{only_none, only_one_by}
+use Rattle.serving.proofs.Sending.{all_one_by, one_frame}
 use Rattle.serving.proofs.server.departures.send_frame.Goals as goal
 
-pub returns-in_err-bytes : goal.returns-in_err-bytes
-returns-in_err-bytes g c =
+pub returns-in_err-bytes-clause-only : goal.returns-in_err-bytes-clause-only
+returns-in_err-bytes-clause-only g c =
     only_none g.N.Network.tape g.N.Network.Tells (IsFrameOf (c.args.frame.now ∷ [])) c.args.network.now
 
-pub returns-in_err-send : goal.returns-in_err-send
-returns-in_err-send g c =
+pub returns-in_err-send-clause-only : goal.returns-in_err-send-clause-only
+returns-in_err-send-clause-only g c =
     only_one_by g.N.Network.tape g.N.Network.Tells (IsFrameOf (c.args.frame.now ∷ [])) c.args.network.now c.send.new.self (Sent c.receiver.result c.as_slice.result.now) c.send.ensures.tape
     c.send.ensures.told (record {
       frame = c.args.frame.now;
@@ -20,8 +21,8 @@ returns-in_err-send g c =
       spelled = subst (λ (b : List ℕ). IsFrame 7 b c.args.frame.now) (sym c.as_slice.ensures.value) c.in_ok-bytes.ensures;
     })
 
-pub returns : goal.returns
-returns g c =
+pub returns-clause-only : goal.returns-clause-only
+returns-clause-only g c =
     only_one_by g.N.Network.tape g.N.Network.Tells (IsFrameOf (c.args.frame.now ∷ [])) c.args.network.now c.send.new.self (Sent c.receiver.result c.as_slice.result.now) c.send.ensures.tape
     c.send.ensures.told (record {
       frame = c.args.frame.now;
@@ -29,3 +30,14 @@ returns g c =
       receiver = sym c.receiver.ensures.receiver;
       spelled = subst (λ (b : List ℕ). IsFrame 7 b c.args.frame.now) (sym c.as_slice.ensures.value) c.in_ok-bytes.ensures;
     })
+
+pub returns-clause-all : goal.returns-clause-all
+returns-clause-all g c =
+    all_one_by g.N.Network.tape g.N.Network.Tells (AreFramesOf (c.args.frame.now ∷ [])) c.args.network.now c.send.new.self
+    (Sent c.receiver.result c.as_slice.result.now) c.send.ensures.tape c.send.ensures.told
+    (one_frame c.args.frame.now (Sent c.receiver.result c.as_slice.result.now) (record {
+      frame = c.args.frame.now;
+      listed = Contains-push [] c.args.frame.now;
+      receiver = sym c.receiver.ensures.receiver;
+      spelled = subst (λ (b : List ℕ). IsFrame 7 b c.args.frame.now) (sym c.as_slice.ensures.value) c.in_ok-bytes.ensures;
+    }))
