@@ -47,9 +47,8 @@ module _ {S : Type 0} (end : WorldState S) (first : ℕ) where
       more_parted k before now after parted (subst (λ (w : WorldState S). FrameIsNoted w k now after) same noted)
       (get_or end.waiting k true) (slice_get-get_or end.waiting k true within)
 
--- ---- a line
+-- ---- the frames of a world
 module _ {S : Type 0} (storages : Ghosts (Script S)) where
-  -- ---- the frames of a world
   done_grows : (action : Action) (old new : WorldState S) → ActionIsDone storages action old new → length old.frames ≤ length new.frames
   done_grows action old new h =
       (done_has (counts_of old) storages action old new h (equal_within (counts_of old) (counts_of old) refl)).frames
