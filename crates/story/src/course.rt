@@ -75,7 +75,7 @@ impl Ledger {
             Action::Round { node, members } => {
                 let first = self.world.frames().len();
                 self.take(alloc, number, Action::Round { node, members })?;
-                self.part_round(number, first)
+                self.part_round(alloc, number, first)
             }
         }
     }

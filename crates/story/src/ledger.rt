@@ -11,7 +11,7 @@ ghost use Rattle.world_model.specs.Waiting.{IsLowestWaiting, NoneWaits};
 
 use super::deeds::Deed;
 use super::flags::first_set;
-use super::passages::{is_over, note_passages, send_late};
+use super::passages::{is_over, note_passages, open_frames, send_late};
 use diagram::Passage;
 use events::WorldFault;
 use schedule::{ReplayCause, ReplayFault};
@@ -156,7 +156,12 @@ impl Ledger {
     }
 
     /// Parts a round by hand into a step for each frame that was sent and delivered in it, in their order, which is that of the deliveries.
-    pub(super) fn part_round(&mut self, line: u64, first: usize) -> Result<(), ReplayFault>
+    pub(super) fn part_round(
+        &mut self,
+        alloc: Global,
+        line: u64,
+        first: usize,
+    ) -> Result<(), ReplayFault>
         requires kept { IsKept self.old }
         requires within { first ≤ length (world_of self.old.world).frames }
         ensures kept { OnOk result (IsKept self.new) }
@@ -169,7 +174,16 @@ impl Ledger {
         for index in first..end {
             self.note_frame(line, index)?;
         }
-        send_late(self.world.frames(), self.passages.as_mut_slice(), first);
+        let Ok(frames) = open_frames(alloc, self.world.frames(), first) else {
+            return Err(ends_at(line, WorldFault::Memory));
+        };
+        let quorum = usize::from(self.world.count()) / 2 + 1;
+        send_late(
+            frames.as_slice(),
+            self.passages.as_mut_slice(),
+            first,
+            quorum,
+        );
         Ok(())
     }
 

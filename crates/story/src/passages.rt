@@ -5,8 +5,8 @@ ghost use Rattle.story.specs.Passing.{DeliversOneOf, NotesComing, SameComings};
 
 use super::deeds::Deed;
 use diagram::Passage;
-use std::alloc::AllocError;
-use wire::Frame;
+use std::alloc::{AllocError, Global};
+use wire::{Envelope, Frame, Message};
 
 /// Whether the frame of this number waits no more.
 pub(crate) fn is_over(waiting: &[bool], index: usize) -> bool
@@ -16,14 +16,29 @@ pub(crate) fn is_over(waiting: &[bool], index: usize) -> bool
     !waiting[index]
 }
 
-/// A frame of a round was sent when its sender had heard the last of what came to it before.
-pub(crate) fn send_late(frames: &[Frame], passages: &mut [Passage], first: usize)
+/// A frame of a round was sent when its sender had heard what it answers, or the promise that made so many.
+pub(crate) fn send_late(frames: &[Envelope], passages: &mut [Passage], first: usize, quorum: usize)
     ensures { SameComings passages.old passages.new }
 {
-    for index in first..frames.len() {
-        let sent = heard_before(frames, passages, first, index);
-        delay(passages, index, sent);
+    for index in 0..frames.len() {
+        let sent = heard_before(frames, passages, first, index, quorum);
+        delay(passages, first.saturating_add(index), sent);
     }
+}
+
+/// The frames from a number on, opened.
+pub(crate) fn open_frames(
+    alloc: Global,
+    frames: &[Frame],
+    first: usize,
+) -> Result<Vec<Envelope>, AllocError> {
+    let mut opened = Vec::new(alloc);
+    for index in first..frames.len() {
+        if let Some(frame) = frames.get(index) {
+            opened.push(frame.open(alloc)?)?;
+        }
+    }
+    Ok(opened)
 }
 
 /// A frame was sent no sooner than at this step.
@@ -35,20 +50,45 @@ fn delay(passages: &mut [Passage], index: usize, sent: usize)
     }
 }
 
-/// The last step at which the sender of a frame heard one of those from `first` on that were sent before it.
-fn heard_before(frames: &[Frame], passages: &[Passage], first: usize, index: usize) -> usize {
+/// The step at which the sender of a frame of a round heard what it answers: of so many frames the last one, of which the first has the
+/// number `first` in the run. 0 where it answers none.
+fn heard_before(
+    frames: &[Envelope],
+    passages: &[Passage],
+    first: usize,
+    index: usize,
+    quorum: usize,
+) -> usize {
     let mut heard = 0;
+    let mut count: usize = 0;
     if let Some(frame) = frames.get(index) {
-        let sender = frame.sender();
-        for before in first..index {
-            if let Some(other) = frames.get(before) {
-                if other.receiver() == sender {
-                    heard = came_at(passages, before).max(heard);
-                }
+        for before in 0..index {
+            let came = came_at(passages, first.saturating_add(before));
+            if came > 0 && count < quorum && is_answered_by(frames, before, frame) {
+                heard = came;
+                count = count.saturating_add(1);
             }
         }
     }
     heard
+}
+
+/// Whether the frame at a place is answered by another: a prepare by a promise, promises by a proposal, and that by a vote.
+fn is_answered_by(frames: &[Envelope], place: usize, answer: &Envelope) -> bool {
+    let Some(heard) = frames.get(place) else {
+        return false;
+    };
+    if heard.to != answer.from {
+        return false;
+    }
+    match answer.message {
+        Message::Promise(_) => matches!(heard.message, Message::Prepare { .. }),
+        Message::Accept(_) => matches!(heard.message, Message::Promise(_)),
+        Message::Accepted(_) => matches!(heard.message, Message::Accept(_)),
+        Message::Nack(_) => matches!(heard.message, Message::Prepare { .. } | Message::Accept(_)),
+        Message::Prepare { .. } => false,
+        _ => true,
+    }
 }
 
 /// The step at which a frame came; 0 where it didn't.

@@ -159,6 +159,21 @@ fn a_round_is_parted_into_its_deliveries(rt: HostRuntime) -> Result<(), Fail> {
 }
 
 #[test]
+fn a_frame_of_a_round_is_sent_when_what_it_answers_has_come(rt: HostRuntime) -> Result<(), Fail> {
+    // Prepares; promises, behind the prepares at their senders; proposals, behind the second promise; votes, behind the proposals.
+    const SENT: [usize; 14] = [1, 1, 1, 2, 3, 5, 5, 5, 6, 6, 6, 7, 7, 7];
+    let ledger = follow(
+        rt.alloc(),
+        b"nodes 3\nsubmit 0 7 1 remove bus-7\nround 0 0 1\n",
+    )?;
+    assert_eq!(rt; ledger.passages.len(), SENT.len());
+    for index in 0..SENT.len() {
+        assert_eq!(rt; ledger.passages[index].sent, SENT[index]);
+    }
+    Ok(())
+}
+
+#[test]
 fn a_picture_has_lines_frames_and_marks(rt: HostRuntime) -> Result<(), Fail> {
     let account = draw(rt.alloc(), SCHEDULE, Some(1), Some(2))?;
     assert!(rt; account.fault.is_some());
