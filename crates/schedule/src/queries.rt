@@ -25,6 +25,14 @@ pub(crate) fn query_row(nodes: Nodes, mut words: Words) -> Result<Event, Schedul
     let Some(question) = question_of(word) else {
         return Err(ScheduleFault::UnknownWord);
     };
+    // The one without words is told at once: what the others say is cleared and moved on its way.
+    if let Question::Count = question {
+        words.end()?;
+        let Some(node) = node(nodes, target) else {
+            return Err(ScheduleFault::WordForm);
+        };
+        return Ok(Event::Query(node, Query::Count));
+    }
     let query = query_of(question, words)?;
     let Some(node) = node(nodes, target) else {
         return Err(ScheduleFault::WordForm);

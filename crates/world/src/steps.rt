@@ -33,6 +33,25 @@ impl<S: Stable> Inner<S> {
         ensures faults { IfErr result (λ f. (f ≡ WorldFault.NoSuchFrame) ⊎ (f ≡ WorldFault.NoSuchNode)
             ⊎ (f ≡ WorldFault.Memory)) }
     {
+        // What isn't bound here isn't cleared here, and a query isn't moved.
+        if let Event::Query(node, query) = &event {
+            return self.query(alloc, *node, query);
+        }
+        self.change(alloc, event)
+    }
+
+    // One atomic step that isn't a query.
+    #[inline(never)]
+    fn change(&mut self, alloc: Global, event: Event) -> Result<(), WorldFault>
+        ensures steps { OnOk result (Steps (⟦<Scripted<S> as Stable>⟧) (inner_of self.old) event (inner_of self.new)) }
+        ensures err { OnErr result (inner_of self.new ≡ inner_of self.old) }
+        ensures no_frame { IsErrOf result WorldFault.NoSuchFrame
+            ↔ NamesNoFrame (length (inner_of self.old).frames) event }
+        ensures no_node { IsErrOf result WorldFault.NoSuchNode
+            ↔ NamesNoNode (length (inner_of self.old).nodes) event }
+        ensures faults { IfErr result (λ f. (f ≡ WorldFault.NoSuchFrame) ⊎ (f ≡ WorldFault.NoSuchNode)
+            ⊎ (f ≡ WorldFault.Memory)) }
+    {
         match event {
             Event::Submit { node, submission } => self.submit(alloc, node, submission),
             Event::Deliver(frame) => self.deliver(alloc, frame, &mut LastOpened::new()),
