@@ -16,8 +16,8 @@ use stable::{Key, Stable, StableFault};
 use std::alloc::Global;
 use synod::{Ballot, Slot};
 use wire::{
-    SharedCommand, ballot_of_record, ballot_record, checkpoint_of_record, checkpoint_record,
-    vote_of_record,
+    ballot_of_record, ballot_record, checkpoint_of_record, checkpoint_record,
+    shared_vote_of_record,
 };
 
 /// What was found under key Checkpoint.
@@ -162,10 +162,9 @@ pub(super) fn voted<S: Stable>(
     let Some(bytes) = storage.get_into(alloc, Key::Vote(slot), buffer)? else {
         return Ok(None);
     };
-    match vote_of_record(alloc, bytes)? {
+    match shared_vote_of_record(alloc, bytes)? {
         Some(choice) => {
             let (ballot, command) = choice;
-            let command = SharedCommand::new(alloc, command)?;
             Ok(Some(AcceptedValue { ballot, command }))
         }
         None => Err(StableFault::Damaged),

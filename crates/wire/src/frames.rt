@@ -37,5 +37,5 @@ pub use position::Position;
 pub use promise::{Entries, MOST_ENTRIES, Promise};
 pub use records::{
     ballot_of_record, ballot_record, checkpoint_of_record, checkpoint_record, round_of_record,
-    round_record, vote_of_record, vote_record,
+    round_record, shared_vote_of_record, vote_of_record, vote_record,
 };

@@ -15,7 +15,7 @@ pub use frames::{
     MOST_ENTRIES, MOST_PARTS, Message, Nack, PART, Part, PartNumber, Position, Promise, WireFault,
     ballot_of_record, ballot_record, checkpoint_of_record, checkpoint_record, decode, encode,
     no_frame_begins_another, parts_make_the_text, round_of_record, round_record, vote_of_record,
-    vote_record,
+    shared_vote_of_record, vote_record,
 };
 pub use node_set::NodeSet;
 pub use nodes::{NodeId, Nodes};

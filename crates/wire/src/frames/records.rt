@@ -13,9 +13,9 @@ ghost use Rattle.wire.specs.Spelling.{BallotFits};
 
 use super::checkpoint::Checkpoint;
 use super::fault::WireFault;
-use super::value_reader::{read_ballot, read_command};
+use super::value_reader::{read_ballot, read_command, read_held};
 use super::value_writer::{command_len, push_ballot, push_command};
-use crate::Nodes;
+use crate::{Nodes, SharedCommand};
 use byteorder::{BigEndian, ByteOrder};
 use fields::{Input, push_u32};
 use sessions::Command;
@@ -118,6 +118,38 @@ pub fn vote_of_record(alloc: Global, bytes: &[u8]) -> Result<Option<(Ballot, Com
         return Ok(None);
     }
     Ok(Some(choice))
+}
+
+/// The same, with the command to be shared.
+// Inlined, what is read isn't moved once more for each of the records of a restart.
+#[inline(always)]
+pub fn shared_vote_of_record(
+    alloc: Global,
+    bytes: &[u8],
+) -> Result<Option<(Ballot, SharedCommand)>, AllocError>
+    ensures spelled { IfOk result (λ found. IfSome found (λ v. IsVoteRecord bytes.now v.0 v.1)) }
+    ensures read { (b : Ballot) (c : Command) → IsVoteRecord bytes.now b c
+        → IfOk result (λ found. found ≡ Some (b, c)) }
+{
+    let mut input = Input::new(bytes);
+    let nodes = Nodes::new(MOST_NODES).unwrap();
+    let Ok(ballot) = read_ballot(&mut input, nodes) else {
+        return Ok(None);
+    };
+    match read_held(alloc, &mut input) {
+        Ok(command) => {
+            if !input.is_empty() {
+                return Ok(None);
+            }
+            Ok(Some((ballot, command)))
+        }
+        Err(fault) => {
+            if fault.is_memory() {
+                return Err(AllocError);
+            }
+            Ok(None)
+        }
+    }
 }
 
 #[tactic(auto, unfolding(crate::specs::RecordForms::choice_at))]
