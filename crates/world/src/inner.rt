@@ -26,6 +26,9 @@ use synod::{MOST_NODES, Slot};
 use wire::{Frame, NodeId, Nodes, Position, SharedCommand};
 use world_model::{Answered, LearntEntry, Replied, RoundEnd, StepOutcome, Submitted};
 
+// Room is made for so many steps at once.
+const STEPS: usize = 32;
+
 /// All nodes of a run, over storages of one kind.
 #[derive(Drop)]
 pub struct Inner<S> {
@@ -41,6 +44,8 @@ pub struct Inner<S> {
     pub(super) replies: Vec<Replied>,
     pub(super) answers: Vec<Answered>,
     pub(super) outcomes: Vec<StepOutcome>,
+    // For so many steps more there is room in all lists.
+    room: usize,
     ghost flags: { vec_len waiting ≡ vec_len frames },
     ghost within: { lowest ≤ vec_len waiting },
     ghost swept: { NoneWaitsBelow waiting.items lowest },
@@ -74,6 +79,7 @@ impl<S: Stable + Drop> Inner<S> {
             replies: Vec::new(alloc),
             answers: Vec::new(alloc),
             outcomes: Vec::new(alloc),
+            room: 0,
         })
     }
 }
@@ -165,6 +171,7 @@ impl<S: Stable> Inner<S> {
     {
         self.outcomes.try_reserve(1)?;
         let _ = self.outcomes.push(StepOutcome::Round(node, *end));
+        self.room = 0;
         Ok(())
     }
 
@@ -186,13 +193,28 @@ impl<S: Stable> Inner<S> {
         ensures room { OnOk result (HasRoom self.new) }
         ensures memory { IfErr result (λ fault. fault ≡ WorldFault.Memory) }
     {
-        self.submitted.try_reserve(1)?;
-        self.frames.try_reserve(MOST_SENDS)?;
-        self.waiting.try_reserve(MOST_SENDS)?;
-        self.learnt.try_reserve(1)?;
-        self.replies.try_reserve(MOST_WAITING)?;
-        self.answers.try_reserve(1)?;
-        self.outcomes.try_reserve(1)?;
+        if self.room == 0 {
+            self.make_room()?;
+        }
+        self.room -= 1;
+        Ok(())
+    }
+
+    // Room for all that so many steps may add.
+    #[cold]
+    #[inline(never)]
+    fn make_room(&mut self) -> Result<(), WorldFault>
+        ensures same { inner_of self.new ≡ inner_of self.old }
+        ensures memory { IfErr result (λ fault. fault ≡ WorldFault.Memory) }
+    {
+        self.submitted.try_reserve(STEPS)?;
+        self.frames.try_reserve(STEPS * MOST_SENDS)?;
+        self.waiting.try_reserve(STEPS * MOST_SENDS)?;
+        self.learnt.try_reserve(STEPS)?;
+        self.replies.try_reserve(STEPS * MOST_WAITING)?;
+        self.answers.try_reserve(STEPS)?;
+        self.outcomes.try_reserve(STEPS)?;
+        self.room = STEPS;
         Ok(())
     }
 
