@@ -73,7 +73,7 @@ fn heard_before(
     heard
 }
 
-/// Whether the frame at a place is answered by another: a prepare by a promise, promises by a proposal, and that by a vote.
+/// Whether the frame at a place is answered by another: a prepare by a promise, promises by proposals, and one by a vote for its slot.
 fn is_answered_by(frames: &[Envelope], place: usize, answer: &Envelope) -> bool {
     let Some(heard) = frames.get(place) else {
         return false;
@@ -81,13 +81,13 @@ fn is_answered_by(frames: &[Envelope], place: usize, answer: &Envelope) -> bool 
     if heard.to != answer.from {
         return false;
     }
-    match answer.message {
-        Message::Promise(_) => matches!(heard.message, Message::Prepare { .. }),
-        Message::Accept(_) => matches!(heard.message, Message::Promise(_)),
-        Message::Accepted(_) => matches!(heard.message, Message::Accept(_)),
-        Message::Nack(_) => matches!(heard.message, Message::Prepare { .. } | Message::Accept(_)),
-        Message::Prepare { .. } => false,
-        _ => true,
+    match (&answer.message, &heard.message) {
+        (Message::Promise(_), Message::Prepare { .. }) => true,
+        (Message::Accept(_), Message::Promise(_)) => true,
+        (Message::Accepted(vote), Message::Accept(asked)) => vote.slot == asked.slot,
+        (Message::Nack(_), Message::Prepare { .. }) => true,
+        (Message::Nack(_), Message::Accept(_)) => true,
+        _ => false,
     }
 }
 
