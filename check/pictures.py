@@ -180,6 +180,10 @@ def judge_diagram(root, seen, objects, events, nodes):
         return
     for number, group, lines in zip(range(first, last + 1), groups, seen["lines"]):
         yield from ("frame %d: %s" % (number, what) for what in judge_arrow(group, lines, frames[number], fate[number], lanes))
+    heights = [float(group.find("line").get("y1")) for group in groups]
+    for number in range(1, len(heights)):
+        if heights[number] < heights[number - 1]:
+            yield "frame %d: it is sent before frame %d" % (first + number, first + number - 1)
 
 
 def judge_arrow(group, seen, frame, fate, lanes):
