@@ -18,6 +18,8 @@ pub enum Packet {
     Sent { to: NodeId, bytes: Vec<u8> },
     /// It came.
     Came { bytes: Vec<u8> },
+    /// None had come.
+    Nothing,
 }
 
 /// What passed between a process and a client.
@@ -29,6 +31,8 @@ pub enum Said {
     Went { connection: u64 },
     /// It was told a text.
     Told { connection: u64, text: Vec<u8> },
+    /// No client had done anything that may be read.
+    Nothing,
 }
 
 /// What came to a node, and what it sent.
@@ -81,10 +85,12 @@ impl Network for Post {
         if !self.is_whole {
             return Err(AllocError);
         }
+        self.is_whole = false;
         let Some(packet) = self.came.pop_front() else {
+            self.passed.push(Packet::Nothing)?;
+            self.is_whole = true;
             return Ok(None);
         };
-        self.is_whole = false;
         let bytes = Vec::from_slice(alloc, packet.as_slice())?;
         self.passed.push(Packet::Came { bytes })?;
         self.is_whole = true;
@@ -142,14 +148,18 @@ impl Desk for Counter {
         if !self.is_whole {
             return Err(AllocError);
         }
+        self.is_whole = false;
         let Some(came) = self.came.pop_front() else {
+            self.said.push(Said::Nothing)?;
+            self.is_whole = true;
             return Ok(None);
         };
         if has_no_room(&came, waiting) {
             self.came.push_front(came)?;
+            self.said.push(Said::Nothing)?;
+            self.is_whole = true;
             return Ok(None);
         }
-        self.is_whole = false;
         let said = said_of(alloc, &came)?;
         self.said.push(said)?;
         self.is_whole = true;

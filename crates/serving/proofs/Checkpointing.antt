@@ -1,17 +1,19 @@
 -- After a turn no checkpoint is due at the node.
-use Rattle.std.proofs.Common.{◌≡◌, ◌+◌, ◌<◌, ◌≤◌, ◌↔◌, ℕ, Bool, true, false, IsTrue, nat_le, Option, Some, None, IfSome, MatchBool, MatchOption, Result, Ok, Err, refl, sym, subst, arith}
+use Rattle.std.proofs.Common.{◌≡◌, ◌+◌, ◌<◌, ◌≤◌, ◌↔◌, ℕ, Bool, true, false, IsTrue, nat_le, Option, Some, None, IfSome, MatchBool, MatchOption, Result, Ok, Err, ◌++◌, refl, sym, ap, subst, ◌∙◌, append-nil, arith}
 use Rattle.std.proofs.lemmas.Bool.{cond_both, leb-false, leb-true}
 use Rattle.stable.specs.declared.stable.Stable.{Ghosts}
 use Rattle.node_model.specs.Faults.{is_stop_fault}
 use Rattle.node_model.specs.Nodes.{NodeState, NodeSteps, RefusesInput, StopsOnInput, TakesInput}
-use Rattle.node_model.specs.Outputs.{Response}
+use Rattle.node_model.specs.Outputs.{Response, silence}
+use Rattle.node_model.specs.Taking.{Takes}
 use Rattle.node_model.specs.Replicas.{ReplicaState, position, refuses}
 use Rattle.node_model.specs.declared.fault.NodeFault.{NodeFault}
 use Rattle.node_model.specs.declared.fault.NodeFault.TheVariants as node_fault
 use Rattle.node_model.specs.declared.input.Input.{Input}
 use Rattle.node_model.specs.declared.input.Input.TheVariants as input
 use Rattle.world_model.specs.Lives.{Took}
-use Rattle.life.specs.Lives.{Does, LifeState}
+use Rattle.life.specs.Lives.{Does, GoesOn, LifeState}
+use Rattle.life.specs.Telling.{to_itself}
 use Rattle.life.specs.declared.fault.LifeFault.{LifeFault}
 use Rattle.life.specs.declared.fault.LifeFault.TheVariants.{Memory, Node}
 use Rattle.serving.specs.Knowing.{IsPosition}
@@ -66,12 +68,12 @@ module _ {S : Type 0} (storages : Ghosts S) where
 
   -- ---- the node was given an input
   pub was_given : (old new : LifeState S) (given : Input) (result : Result (Unit {0}) LifeFault) (refused : Option NodeFault)
-      → Does storages old (Took given) result new → IsRefusal result (Ok refused) → WasGiven storages old.node given new.node
+      → Does storages old (Took given) result new → IsRefusal result (Ok refused) → WasGiven storages old given new
   was_given old new given (Ok done) refused does refusal =
-      record { result = Ok does.0; steps = does.1.happens.0; goes_on = λ fault is. absurd (cc) }
+      record { result = Ok does.0; takes = does.1; goes_on = λ fault is. absurd (cc) }
   was_given old new given (Err (Node fault)) (Some other) does refusal = record {
     result = Err fault;
-    steps = does.happens.0;
+    takes = does;
     goes_on = λ f is. let same : other ≡ f = cc in subst IsRefused same refusal.1;
   }
   was_given old new given (Err (Node fault)) None does refusal = absurd (cc)
@@ -120,33 +122,54 @@ module _ {S : Type 0} (storages : Ghosts S) where
       (λ le is. let below = leb-true (position m) m.acceptor.floor le in absurd (omega (arith, below, due)))
       (λ gt is. absurd (cc))
 
-  checkpointed_where : (old new : NodeState S) (p f : ℕ) → WasGiven storages old input.Checkpoint new → f + SLOTS_BETWEEN_CHECKPOINTS ≤ p
-      → (up : Option ReplicaState) → old.up ≡ up → MatchOption up (p ≡ 0) (λ m. p ≡ position m)
-      → MatchOption up (f ≡ 0) (λ m. f ≡ m.acceptor.floor) → IfSome new.up IsNear
+  checkpointed_where : (old new : LifeState S) (p f : ℕ) → WasGiven storages old input.Checkpoint new → f + SLOTS_BETWEEN_CHECKPOINTS ≤ p
+      → (up : Option ReplicaState) → old.node.up ≡ up → MatchOption up (p ≡ 0) (λ m. p ≡ position m)
+      → MatchOption up (f ≡ 0) (λ m. f ≡ m.acceptor.floor) → IfSome new.node.up IsNear
   checkpointed_where old new p f given due None up at floor =
-      absurd (not_down old new input.Checkpoint given.result given.steps given.goes_on up)
+      absurd (not_down old.node new.node input.Checkpoint given.result given.takes.happens.0 given.goes_on up)
   checkpointed_where old new p f given due (Some m) up at floor =
       let here : p ≡ position m = at in
       let there : f ≡ m.acceptor.floor = floor in
       let is : m.acceptor.floor + SLOTS_BETWEEN_CHECKPOINTS ≤ position m = omega (arith, due, here, there) in
-      near_after old new input.Checkpoint m up (checkpoint_taken old new m)
-      (λ fault refuses_. absurd (never_refused m fault is refuses_.refused)) given.result given.steps given.goes_on
+      near_after old.node new.node input.Checkpoint m up (checkpoint_taken old.node new.node m)
+      (λ fault refuses_. absurd (never_refused m fault is refuses_.refused)) given.result given.takes.happens.0 given.goes_on
 
-  pub checkpointed_now : (old new : NodeState S) (p f : ℕ) → WasGiven storages old input.Checkpoint new → IsPosition old p
-      → IsFloor old f → f + SLOTS_BETWEEN_CHECKPOINTS ≤ p → IsCheckpointed new
+  pub checkpointed_now : (old new : LifeState S) (p f : ℕ) → WasGiven storages old input.Checkpoint new → IsPosition old.node p
+      → IsFloor old.node f → f + SLOTS_BETWEEN_CHECKPOINTS ≤ p → IsCheckpointed new.node
   checkpointed_now old new p f given at floor due =
-      record { near = checkpointed_where old new p f given due old.up refl at floor }
+      record { near = checkpointed_where old new p f given due old.node.up refl at floor }
 
   -- ---- a trim leaves the floor
-  trimmed_where : (old new : NodeState S) → WasGiven storages old input.Trim new → (up : Option ReplicaState) → old.up ≡ up
-      → IfSome up IsNear → IfSome new.up IsNear
+  trimmed_where : (old new : LifeState S) → WasGiven storages old input.Trim new → (up : Option ReplicaState) → old.node.up ≡ up
+      → IfSome up IsNear → IfSome new.node.up IsNear
   trimmed_where old new given None up near =
-      absurd (not_down old new input.Trim given.result given.steps given.goes_on up)
+      absurd (not_down old.node new.node input.Trim given.result given.takes.happens.0 given.goes_on up)
   trimmed_where old new given (Some m) up near =
-      near_after old new input.Trim m up
+      near_after old.node new.node input.Trim m up
       (λ said takes. subst (λ (n : NodeState S). IfSome n.up IsNear) (sym takes.leaves) (subst IsNear (sym takes.takes.0) near))
       (λ fault refuses_. subst (λ (n : NodeState S). IfSome n.up IsNear) (sym refuses_.leaves)
-      (subst (λ (o : Option ReplicaState). IfSome o IsNear) (sym up) near)) given.result given.steps given.goes_on
+      (subst (λ (o : Option ReplicaState). IfSome o IsNear) (sym up) near)) given.result given.takes.happens.0 given.goes_on
 
-  pub checkpointed_still : (old new : NodeState S) → WasGiven storages old input.Trim new → IsCheckpointed old → IsCheckpointed new
-  checkpointed_still old new given h = record { near = trimmed_where old new given old.up refl h.near }
+  pub checkpointed_still : (old new : LifeState S) → WasGiven storages old input.Trim new → IsCheckpointed old.node
+      → IsCheckpointed new.node
+  checkpointed_still old new given h = record { near = trimmed_where old new given old.node.up refl h.near }
+
+  -- ---- neither says anything, and so the same frames to itself wait
+  quiet_where : (old new : NodeState S) (given : Input) (said : Response)
+      → ((m n : ReplicaState) → Takes m given n said → said ≡ silence) → NodeSteps storages old given (Ok said) new
+      → (up : Option ReplicaState) → old.up ≡ up → IfSome up (λ m. TakesInput storages old m given said new) → said ≡ silence
+  quiet_where old new given said silent steps None is h = absurd (let down = (steps.down is).0 in cc)
+  quiet_where old new given said silent steps (Some m) is h = silent m h.replica h.takes
+
+  own_where : (old new : LifeState S) (given : Input) → ((said : Response) (m n : ReplicaState) → Takes m given n said → said ≡ silence)
+      → (result : Result Response NodeFault) → GoesOn storages old (Took given result) new → new.own ≡ old.own
+  own_where old new given silent (Ok said) goes_on =
+      let quiet = quiet_where old.node new.node given said (silent said) goes_on.happens.0 old.node.up refl goes_on.happens.0.taken in
+      goes_on.own ∙ ap (λ (r : Response). old.own ++ to_itself old.id r.sends) quiet ∙ append-nil old.own
+  own_where old new given silent (Err fault) goes_on = goes_on.own ∙ append-nil old.own
+
+  pub checkpoint_keeps_own : (old new : LifeState S) → WasGiven storages old input.Checkpoint new → new.own ≡ old.own
+  checkpoint_keeps_own old new given = own_where old new input.Checkpoint (λ said m n takes. takes.1) given.result given.takes
+
+  pub trim_keeps_own : (old new : LifeState S) → WasGiven storages old input.Trim new → new.own ≡ old.own
+  trim_keeps_own old new given = own_where old new input.Trim (λ said m n takes. takes.1) given.result given.takes

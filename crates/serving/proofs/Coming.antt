@@ -1,6 +1,6 @@
 -- What comes to a process, and what it makes of it.
-use Rattle.std.proofs.Common.{◌≡◌, ℕ, List, [], ◌∷◌, ◌++◌, Option, IsTrue, OnOk, OnErr, Result, Ok, Err, Bool, true, false, All}
-use Rattle.std.proofs.Common.{refl, sym, ap, subst, inl, inr, rules}
+use Rattle.std.proofs.Common.{◌≡◌, ℕ, List, [], ◌∷◌, ◌++◌, Option, if◌then◌else◌, OnOk, OnErr, Result, Ok, Err, Bool, true, false, All}
+use Rattle.std.proofs.Common.{refl, sym, ap, subst, inl, inr}
 use Rattle.std.proofs.lemmas.List.Elements.{All-cons, All-nil, Contains-append_right, Contains-push}
 use Rattle.sessions.specs.declared.submission.Submission.{Submission}
 use Rattle.store.specs.declared.query.Query.{Query}
@@ -20,9 +20,9 @@ use Rattle.clients.specs.declared.line.ClientLine.TheVariants as line
 use Rattle.serving.specs.declared.claims.Claim.{Claim}
 use Rattle.serving.specs.declared.waiting.Due.{Due}
 use Rattle.serving.specs.declared.waiting.Question.{Question}
-use Rattle.serving.specs.Requesting.{RequestState, fresh_request}
+use Rattle.serving.specs.Requesting.{RequestState, fresh_request, is_known, with_request}
 use Rattle.serving.specs.Serving.{ServerState, Serves}
-use Rattle.serving.specs.Tapes.{Arrived, Heard, Went}
+use Rattle.serving.specs.Tapes.{Arrived, Heard, NothingCame, NothingHeard, Went}
 use Rattle.serving.specs.Turns.{Past, first_position, later, handed_on, HasAsked, HasQueried, HasWritten, IsOfProcess, MayBeDue, MayBeHandedOn, MayBeSaid, MayCome, MayPass}
 use Rattle.serving.proofs.Holding.{EachOld, Holds, IsNow, each_pushed, each_same, holds_same}
 use Rattle.serving.proofs.Leading.{serves_doing, serves_quiet}
@@ -33,6 +33,9 @@ none_passes past = All-nil (MayPass past)
 
 arrival_passes : (bytes : List ℕ) (past : Past) → All (MayPass past) (Arrived bytes ∷ [])
 arrival_passes bytes past = All-cons (MayPass past) (Arrived bytes) [] tt (All-nil (MayPass past))
+
+nothing_passes : (past : Past) → All (MayPass past) (NothingCame ∷ [])
+nothing_passes past = All-cons (MayPass past) NothingCame [] tt (All-nil (MayPass past))
 
 pub none_said : {S : Type 0} (storages : Ghosts S) (first : NodeState S) (past : Past) → All (MayBeSaid storages first past) []
 none_said storages first past = All-nil (MayBeSaid storages first past)
@@ -48,6 +51,12 @@ going_said : {S : Type 0} (storages : Ghosts S) (connection : ℕ) (first : Node
 going_said storages connection first past =
     let P = MayBeSaid storages first past in
     All-cons P (Went connection) [] tt (All-nil P)
+
+nothing_said : {S : Type 0} (storages : Ghosts S) (first : NodeState S) (past : Past)
+    → All (MayBeSaid storages first past) (NothingHeard ∷ [])
+nothing_said storages first past =
+    let P = MayBeSaid storages first past in
+    All-cons P NothingHeard [] tt (All-nil P)
 
 -- ---- what was just written
 pub just_written : (connection : ℕ) (text : List ℕ) (asked : ClientLine) → IsClientLine text asked
@@ -88,13 +97,17 @@ just_handed_on connection text submission client number asks = record {
 }
 
 -- the list of requests, once one was added that may be there already
-pub requests_added : {E : Type 0} (known : Bool) (result : Result (Unit {0}) E) (IsSo : RequestState → Type 0) (olds news : List RequestState)
-    (request : RequestState) → IsSo request → (IsTrue known → news ≡ olds) → (¬ IsTrue known → OnOk result (news ≡ olds ++ request ∷ []))
-    → OnErr result (news ≡ olds) → EachOld olds IsSo news
-requests_added true result IsSo olds news request so again last err = each_same IsSo olds news (again (search rules))
-requests_added false (Ok done) IsSo olds news request so again last err =
-    each_pushed IsSo olds news request so (last (search rules))
-requests_added false (Err fault) IsSo olds news request so again last err = each_same IsSo olds news err
+added_where : (known : Bool) (IsSo : RequestState → Type 0) (olds news : List RequestState) (request : RequestState) → IsSo request
+    → news ≡ (if known then olds else olds ++ request ∷ []) → EachOld olds IsSo news
+added_where true IsSo olds news request so is = each_same IsSo olds news is
+added_where false IsSo olds news request so is = each_pushed IsSo olds news request so is
+
+pub requests_added : {E : Type 0} (result : Result (Unit {0}) E) (IsSo : RequestState → Type 0) (client number : ℕ) (text : List ℕ)
+    (olds news : List RequestState) → IsSo (fresh_request client number text)
+    → OnOk result (news ≡ with_request client number text olds) → OnErr result (news ≡ olds) → EachOld olds IsSo news
+requests_added (Ok done) IsSo client number text olds news so added err =
+    added_where (is_known client number olds) IsSo olds news (fresh_request client number text) so added
+requests_added (Err fault) IsSo client number text olds news so added err = each_same IsSo olds news err
 
 of_process_comes : (id : ℕ) (past : Past) (given : Input) → IsOfProcess given → MayCome id past given
 of_process_comes id past (input.Message e) h = absurd h
@@ -105,6 +118,16 @@ of_process_comes id past input.Checkpoint h = tt
 of_process_comes id past input.Trim h = tt
 
 module _ {S : Type 0} (storages : Ghosts S) where
+  -- ---- nothing
+  pub serves_nothing_came : (s : ServerState S) → Serves storages s (NothingCame ∷ []) [] s
+  serves_nothing_came s =
+      serves_quiet storages s s (NothingCame ∷ []) [] refl nothing_passes (none_said storages) (holds_same [] s s refl refl)
+
+  pub serves_nothing_heard : (s : ServerState S) → Serves storages s [] (NothingHeard ∷ []) s
+  serves_nothing_heard s =
+      serves_quiet storages s s [] (NothingHeard ∷ []) refl none_passes (nothing_said storages)
+      (holds_same (NothingHeard ∷ []) s s refl refl)
+
   -- ---- from other nodes
   -- bytes that are passed over
   pub serves_passing_over : (old new : ServerState S) (bytes : List ℕ) → new.life ≡ old.life → new.waiting ≡ old.waiting

@@ -12,7 +12,7 @@ use Rattle.serving.specs.declared.waiting.Due.{Due}
 use Rattle.serving.specs.declared.waiting.Due.TheVariants as due
 use Rattle.serving.specs.declared.waiting.Question.{Question}
 use Rattle.serving.specs.Owing.{AnswersEach, KeepsEach, is_line_of, is_text_to, owed_to, reply_line, reply_told}
-use Rattle.serving.specs.Tapes.{Talk, Heard, Went, Told}
+use Rattle.serving.specs.Tapes.{Talk, Heard, NothingHeard, Went, Told}
 use Rattle.serving.specs.Waitings.{IsFirstRipe, WaitingState, is_asked_by, is_told_to}
 use Rattle.serving.proofs.Counts.{count_append, count_cons, count_kept, count_map, count_none, count_one, count_parts, count_push}
 
@@ -37,6 +37,12 @@ keeps_none old new same = record {
   keeps = λ talk h. subst (λ (w : WaitingState). AnswersEach (talk ++ []) w) (sym same)
       (subst (λ (t : List Talk). AnswersEach t old) (sym (append-nil talk)) h);
 }
+
+-- no client does anything
+pub keeps_nothing_heard : (waiting : WaitingState) → KeepsEach (NothingHeard ∷ []) waiting waiting
+keeps_nothing_heard waiting =
+    keeps_by (NothingHeard ∷ []) waiting waiting
+    (λ c stays. omega (arith, count_one (is_line_of c) NothingHeard, count_one (is_text_to c) NothingHeard))
 
 -- a line comes, and one more waits
 heard_balance : (c connection : ℕ) (text : List ℕ) (old new : WaitingState)

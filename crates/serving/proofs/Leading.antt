@@ -1,6 +1,5 @@
 -- A part of a turn leads from a process to another one.
-use Rattle.std.proofs.Common.{◌≡◌, ℕ, List, [], ◌∷◌, ◌++◌, Result, Ok, Err, Bool, true, false, All, Contains, sym, subst}
-use Rattle.std.proofs.Common.{append-nil, inl}
+use Rattle.std.proofs.Common.{◌≡◌, ℕ, List, [], ◌∷◌, ◌++◌, Result, Ok, Err, Bool, true, false, All, Contains, sym, subst, append-nil, inl}
 use Rattle.std.specs.List.{flat_map}
 use Rattle.std.proofs.lemmas.List.Elements.{All-append, All-cons, All-head, All-nil, All-rest, All-same, All-weaker}
 use Rattle.stable.specs.declared.stable.Stable.{Ghosts}

@@ -1,5 +1,6 @@
 -- What comes of a packet that hands on a request.
-use Rattle.std.proofs.Common.{◌≡◌, ℕ, List, Option, Some, None, MatchOption, Result, Ok, Err, OnOk, refl, subst}
+use Rattle.std.proofs.Common.{◌≡◌, ◌<◌, ◌≤◌, ◌↔◌, ℕ, nat_le, Bool, true, false, IsTrue, List, Option, Some, None, MatchOption, Result, Ok, Err, OnOk, refl, subst}
+use Rattle.std.proofs.lemmas.Bool.{leb-false, leb-true}
 use Rattle.sessions.specs.Machines.{last_number}
 use Rattle.sessions.specs.Sessions.{session_of}
 use Rattle.sessions.specs.declared.submission.Submission.{Submission}
@@ -10,7 +11,6 @@ use Rattle.schedule.specs.declared.fault.ScheduleFault.{ScheduleFault}
 use Rattle.schedule.specs.declared.replay_fault.ReplayCause.TheVariants.{Schedule}
 use Rattle.life.specs.Lives.{LifeState}
 use Rattle.clients.specs.ClientLines.{IsClientFault, IsClientLine}
-use Rattle.clients.specs.declared.line.ClientLine.{ClientLine}
 use Rattle.clients.specs.declared.line.ClientLine.TheVariants as line
 use Rattle.clients.proofs.LineLaws.{faulty_asks, one_asked}
 use Rattle.serving.specs.Knowing.{IsLastNumber}
@@ -24,16 +24,23 @@ last_where client (Some m) = (last_number (session_of m.machine.sessions client)
 pub has_last : {S : Type 0} (n : NodeState S) (client : ℕ) → (number : ℕ) × IsLastNumber n client number
 has_last n client = last_where client n.up
 
+-- a number that hasn't counted is greater
+not_counted_at : (known : Bool) (number last : ℕ) → known ≡ false → (IsTrue known ↔ (number ≤ last)) → (b : Bool)
+    → nat_le number last ≡ b → last < number
+not_counted_at known number last is iff true le =
+    let counted : IsTrue known = iff.1 (leb-true number last le) in
+    absurd (cc)
+not_counted_at known number last is iff false gt = leb-false number last gt
+
+pub not_counted : (known : Bool) (number last : ℕ) → known ≡ false → (IsTrue known ↔ (number ≤ last)) → last < number
+not_counted known number last is iff = not_counted_at known number last is iff (nat_le number last) refl
+
 -- ---- lines
 same_submission : (a b : Submission) → line.Submit a ≡ line.Submit b → a ≡ b
 same_submission a b e = cc
 
 pub faulty_submits_nothing : (text : List ℕ) (fault : ScheduleFault) → IsClientFault text (Schedule fault) → SubmitsNothing text
 faulty_submits_nothing text fault is = λ submission. faulty_asks text fault (line.Submit submission) is
-
-pub other_submits_nothing : (text : List ℕ) (asked : ClientLine) → IsClientLine text asked
-    → ((submission : Submission) → asked ≡ line.Submit submission → ⊥) → SubmitsNothing text
-other_submits_nothing text asked is other = λ submission h. other submission (one_asked text asked (line.Submit submission) is h)
 
 module _ {S : Type 0} (storages : Ghosts S) (text : List ℕ) (old : LifeState S) where
   pub taken_over : (new : LifeState S) (submission : Submission) → IsClientLine text (line.Submit submission)

@@ -1,12 +1,12 @@
 -- The requests that wait, once some are handed on or replied to.
 use Rattle.std.proofs.Common.{◌≡◌, ◌∙◌, ℕ, zero, suc, ◌+◌, ◌-◌, ◌<◌, ◌≤◌, Bool, true, false, ◌&&◌, ◌||◌, not, cond, List, [], ◌∷◌, ◌++◌, length, take, get_or, All, Some, refl, sym, ap, subst, arith}
 use Rattle.std.specs.List.{filter}
-use Rattle.std.proofs.lemmas.List.{map-append, take_all}
+use Rattle.std.proofs.lemmas.List.{map-append}
 use Rattle.std.proofs.lemmas.List.Elements.{All-cons, All-head, All-nil, All-tail}
 use Rattle.std.proofs.lemmas.List.Folds.{list_any_more}
 use Rattle.world_model.specs.declared.lists.Replied.{Replied}
 use Rattle.serving.specs.declared.hand_on.TheConstants.{HAND_ON_PERIOD}
-use Rattle.serving.specs.Requesting.{HandsOnFirst, IsDue, NoneIsDue, RequestState, as_new, is_replied, is_request, unmarked, unreplied}
+use Rattle.serving.specs.Requesting.{HandsOnFirst, IsDue, NoneIsDue, RequestState, as_new, is_replied, is_request, as_new_all, unreplied}
 
 -- ---- those to which there is a reply
 twice : {X : Type 0} (p s t : X → Bool) → ((x : X) → t x ≡ (p x && s x)) → (xs : List X) → filter t xs ≡ filter s (filter p xs)
@@ -26,9 +26,6 @@ twice {X} p s t both (x ∷ xs) =
 neither : (a b : Bool) → not (a || b) ≡ (not a && not b)
 neither true b = refl
 neither false b = refl
-
-none_replied : (request : RequestState) → not (is_replied [] request) ≡ true
-none_replied request = refl
 
 pub unreplied_none : (requests : List RequestState) → requests ≡ unreplied [] requests
 unreplied_none [] = refl
@@ -81,16 +78,12 @@ module _ (now place : ℕ) (olds news : List RequestState) (h : HandsOnFirst now
       subst (λ (n : ℕ). NoneIsDue now (take n news)) more
       (subst (λ (rs : List RequestState). NoneIsDue now (take (suc k) rs)) (sym h.is) all)
 
-  pub unmarked_same : unmarked news ≡ unmarked olds
+  pub unmarked_same : as_new_all news ≡ as_new_all olds
   unmarked_same =
       let f : RequestState → RequestState = as_new in
       let marked : RequestState = record h.request { handed_on = Some now } in
-      ap unmarked h.is ∙ map-append f h.before (marked ∷ h.after) ∙ sym (map-append f h.before (h.request ∷ h.after))
-      ∙ sym (ap unmarked h.was)
+      ap as_new_all h.is ∙ map-append f h.before (marked ∷ h.after) ∙ sym (map-append f h.before (h.request ∷ h.after))
+      ∙ sym (ap as_new_all h.was)
 
 pub none_due_first : (now : ℕ) (requests : List RequestState) → NoneIsDue now (take 0 requests)
 none_due_first now requests = All-nil (λ request. ¬ IsDue now request)
-
-pub none_due_at_all : (now count : ℕ) (requests : List RequestState) → NoneIsDue now (take count requests) → length requests ≤ count
-    → NoneIsDue now requests
-none_due_at_all now count requests none all = subst (λ (rs : List RequestState). NoneIsDue now rs) (take_all count requests all) none

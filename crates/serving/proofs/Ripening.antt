@@ -24,13 +24,12 @@ use Rattle.serving.specs.declared.claims.Claim.{Claim}
 use Rattle.serving.specs.declared.waiting.Due.TheVariants as due
 use Rattle.serving.specs.declared.waiting.Question.{Question}
 use Rattle.serving.specs.Knowing.{IsPosition, Refuses, WasSo}
-use Rattle.serving.specs.Owing.{AnswersEach, KeepsEach, owed_to}
+use Rattle.serving.specs.Owing.{KeepsEach, owed_to}
 use Rattle.serving.specs.Refusals.{IsRefusal}
 use Rattle.serving.specs.Requesting.{HandsOnFirst, RequestState}
 use Rattle.serving.specs.Resting.{IsFull, NoneIsRipe}
 use Rattle.serving.specs.Serving.{IsServing, ServerState, Serves}
 use Rattle.serving.specs.Claiming.{is_for}
-use Rattle.serving.specs.Tapes.{Talk}
 use Rattle.serving.specs.Turns.{HasAsked, IsPlain, MayBeDue, refused}
 use Rattle.serving.specs.Waitings.{IsFirstRipe, IsHeldBack, WaitingState, is_told_to}
 use Rattle.serving.proofs.Counts.{count_cons, count_push}
@@ -38,7 +37,7 @@ use Rattle.serving.proofs.KeepingEach.{keeps_by}
 use Rattle.serving.proofs.LettingOut.{serves_still}
 
 -- ---- queries that are held back
-position_once : (up : Option ReplicaState) (a b : ℕ) → MatchOption up (a ≡ 0) (λ m. a ≡ position m)
+pub position_once : (up : Option ReplicaState) (a b : ℕ) → MatchOption up (a ≡ 0) (λ m. a ≡ position m)
     → MatchOption up (b ≡ 0) (λ m. b ≡ position m) → a ≡ b
 position_once None a b here there = here ∙ sym there
 position_once (Some m) a b here there = here ∙ sym there
@@ -198,11 +197,6 @@ serves_clearing {S} storages old new life waiting requests =
 pub nothing_left : {A : Type 0} (xs : List A) (all told : ℕ) → length xs ≡ all - told → all ≤ told → xs ≡ []
 nothing_left [] all told is done = refl
 nothing_left (x ∷ xs) all told is done = absurd (omega (arith, is, done))
-
-pub keeps_quietly : (a b c : WaitingState) → KeepsEach [] a b → KeepsEach [] b c → KeepsEach [] a c
-keeps_quietly a b c h k = record {
-  keeps = λ talk is. k.keeps talk (subst (λ (t : List Talk). AnswersEach t b) (append-nil talk) (h.keeps talk is));
-}
 
 pub keeps_turned_away : (old new : WaitingState) (claim : Claim) (rest : List Claim) (line : Vec ℕ) → old.claims ≡ claim ∷ rest
     → new ≡ record old { claims = rest; due = old.due ++ due.Line claim.connection line ∷ [] } → KeepsEach [] old new

@@ -1,19 +1,15 @@
 -- All that is to be sent is sent, once and in order.
-use Rattle.std.proofs.Common.{◌≡◌, ◌∙◌, ℕ, ◌+◌, ◌<◌, List, [], ◌∷◌, ◌++◌, length, take, get_or, Option, Some, None, refl, sym, ap, subst, append-nil, append_assoc}
+use Rattle.std.proofs.Common.{◌≡◌, ◌∙◌, ℕ, ◌+◌, ◌<◌, List, [], ◌∷◌, ◌++◌, length, take, get_or, Option, sym, ap, subst, append-nil, append_assoc}
 use Rattle.std.proofs.lemmas.List.{take_more}
 use Rattle.std.proofs.lemmas.List.Sums.{fold_more}
-use Rattle.synod.specs.declared.ballot.Ballot.{Ballot}
-use Rattle.wire.specs.Framing.{voted_slot}
 use Rattle.wire.specs.declared.frames.envelope.Envelope.{Envelope}
-use Rattle.wire.specs.declared.frames.message.Message.{Message}
-use Rattle.wire.specs.declared.frames.message.Message.TheVariants as message
 use Rattle.serving.specs.HandingOn.{IsHandedTo}
 use Rattle.serving.specs.Outgoing.{AreFramesOf, ArePacketsOf, IsFrameOf}
 use Rattle.serving.specs.Outgoing.AreFramesOf.{none, next}
 use Rattle.serving.specs.Outgoing.ArePacketsOf.{sends_to, passes_by}
 use Rattle.serving.specs.Serving.{Passes}
 use Rattle.serving.specs.Tapes.{Carried, Sent}
-use Rattle.serving.specs.Timings.{TimingState, all_own_seen, own_seen, slot_seen}
+use Rattle.serving.specs.Timings.{TimingState, all_own_seen, own_seen}
 use Rattle.serving.proofs.Passing.{passes_none, passes_then}
 
 -- ---- tapes
@@ -33,9 +29,6 @@ module _ {T A : Type 0} (tape : T → List A) (Tells : T → Type 0) where
     are = both h.passed k.passed h.are k.are;
     passes = passes_then tape Tells a b c h.passed k.passed h.passes k.passes;
   }
-
-  pub all_still : (P Q : List A → Type 0) → ((xs : List A) → P xs → Q xs) → (a b : T) → Passes tape Tells P a b → Passes tape Tells Q a b
-  all_still P Q f a b h = record { passed = h.passed; are = f h.passed h.are; passes = h.passes }
 
 -- ---- frames
 frames_then : (es fs : List Envelope) (xs ys : List Carried) → AreFramesOf es xs → AreFramesOf fs ys → AreFramesOf (es ++ fs) (xs ++ ys)
@@ -84,31 +77,3 @@ own_seen_more frames i frame now first knew knows lt at was is =
     is ∙ ap (λ (t : TimingState). own_seen frame.message now t) was
     ∙ ap (λ (e : Envelope). own_seen e.message now (all_own_seen (take i frames) now first)) at
     ∙ sym (fold_more f first frames i frame lt)
-
--- a vote that it tells of
-pub own_vote_seen : (m : Message) (slot now : ℕ) (t : TimingState) → voted_slot m ≡ Some slot → own_seen m now t ≡ slot_seen slot t
-own_vote_seen (message.Prepare ballot first) slot now t e = absurd (cc)
-own_vote_seen (message.Promise p) slot now t e = absurd (cc)
-own_vote_seen (message.Nack n) slot now t e = absurd (cc)
-own_vote_seen (message.Accept v) slot now t e = absurd (cc)
-own_vote_seen (message.Accepted v) slot now t e =
-    let same : v.slot ≡ slot = cc in ap (λ (k : ℕ). slot_seen k t) same
-own_vote_seen (message.Ask s) slot now t e = absurd (cc)
-own_vote_seen (message.Decided s command) slot now t e = absurd (cc)
-own_vote_seen (message.SnapAsk position number) slot now t e = absurd (cc)
-own_vote_seen (message.SnapPart part) slot now t e = absurd (cc)
-own_vote_seen (message.Behind floor) slot now t e = absurd (cc)
-
--- nothing else
-pub own_other_seen : (m : Message) (now : ℕ) (t : TimingState) → voted_slot m ≡ None
-    → ((ballot : Ballot) (first : ℕ) → m ≡ message.Prepare ballot first → ⊥) → own_seen m now t ≡ t
-own_other_seen (message.Prepare ballot first) now t e other = absurd (other ballot first refl)
-own_other_seen (message.Promise p) now t e other = refl
-own_other_seen (message.Nack n) now t e other = refl
-own_other_seen (message.Accept v) now t e other = refl
-own_other_seen (message.Accepted v) now t e other = absurd (cc)
-own_other_seen (message.Ask s) now t e other = refl
-own_other_seen (message.Decided s command) now t e other = refl
-own_other_seen (message.SnapAsk position number) now t e other = refl
-own_other_seen (message.SnapPart part) now t e other = refl
-own_other_seen (message.Behind floor) now t e other = refl

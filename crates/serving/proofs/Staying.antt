@@ -7,12 +7,7 @@ use Rattle.node_model.specs.Outputs.{Response}
 use Rattle.node_model.specs.Replicas.{ReplicaState}
 use Rattle.node_model.specs.declared.fault.NodeFault.{NodeFault}
 use Rattle.node_model.specs.declared.input.Input.{Input}
-use Rattle.node_model.specs.declared.input.Input.TheVariants as input
 use Rattle.world_model.specs.Lives.{Happens, Took}
-use Rattle.life.specs.Lives.{Does, LifeState, TakesBack, TakesFirst}
-use Rattle.life.specs.declared.fault.LifeFault.{LifeFault}
-use Rattle.life.specs.declared.fault.LifeFault.TheVariants.{Memory, Node}
-use Rattle.serving.specs.Refusals.{IsRefusal}
 use Rattle.serving.specs.Staying.{StaysUp}
 
 module _ {S : Type 0} (storages : Ghosts S) where
@@ -35,45 +30,14 @@ module _ {S : Type 0} (storages : Ghosts S) where
       (subst (λ (o : Option ReplicaState). IsSome o) (sym is) refl)
   up_where_refused old new given fault goes_on None is h some = absurd (cc)
 
-  stays_said : (old new : NodeState S) (given : Input) (said : Response) → Happens storages old (Took given (Ok said)) new
+  pub stays_said : (old new : NodeState S) (given : Input) (said : Response) → Happens storages old (Took given (Ok said)) new
       → StaysUp old new
   stays_said old new given said h = record { stays = up_where_taken old new given said old.up h.0.taken }
 
-  stays_refused : (old new : NodeState S) (given : Input) (fault : NodeFault) → is_stop_fault fault ≡ false
+  pub stays_refused : (old new : NodeState S) (given : Input) (fault : NodeFault) → is_stop_fault fault ≡ false
       → Happens storages old (Took given (Err fault)) new → StaysUp old new
   stays_refused old new given fault goes_on h =
       record { stays = up_where_refused old new given fault goes_on old.up refl h.0.refused }
-
-  pub stays_taking : (old new : LifeState S) (given : Input) (result : Result (Unit {0}) LifeFault) (refused : Option NodeFault)
-      → Does storages old (Took given) result new → IsRefusal result (Ok refused) → StaysUp old.node new.node
-  stays_taking old new given (Ok done) refused does refusal = stays_said old.node new.node given does.0 does.1.happens
-  stays_taking old new given (Err (Node fault)) (Some other) does refusal =
-      let same : other ≡ fault = cc in
-      stays_refused old.node new.node given fault (subst (λ (f : NodeFault). is_stop_fault f ≡ false) same refusal.1.0) does.happens
-  stays_taking old new given (Err (Node fault)) None does refusal = absurd (cc)
-  stays_taking old new given (Err Memory) (Some other) does refusal = absurd (cc)
-  stays_taking old new given (Err Memory) None does refusal = absurd (cc)
-
-  -- its frame to itself that has waited longest
-  stays_first : (old new : LifeState S) (answer : Result Response NodeFault) (takes : TakesFirst storages old answer new)
-      → Happens storages old.node (Took (input.Message takes.first) answer) new.node
-  stays_first old new answer takes = takes.goes_on.happens
-
-  pub stays_taken_back : (old new : LifeState S) (taken : Bool) → TakesBack storages old (Ok taken) new → StaysUp old.node new.node
-  stays_taken_back old new true h =
-      stays_said old.node new.node (input.Message h.1.first) h.0 (stays_first old new (Ok h.0) h.1)
-  stays_taken_back old new false h =
-      record { stays = λ is. subst (λ (l : LifeState S). IsSome l.node.up) (sym h.1) is }
-
-  pub stays_refusing : (old new : LifeState S) (fault : LifeFault) (refused : Option NodeFault) → TakesBack storages old (Err fault) new
-      → IsRefusal (Err fault) (Ok refused) → StaysUp old.node new.node
-  stays_refusing old new (Node fault) (Some other) h refusal =
-      let same : other ≡ fault = cc in
-      stays_refused old.node new.node (input.Message h.first) fault
-      (subst (λ (f : NodeFault). is_stop_fault f ≡ false) same refusal.1.0) (stays_first old new (Err fault) h)
-  stays_refusing old new (Node fault) None h refusal = absurd (cc)
-  stays_refusing old new Memory (Some other) h refusal = absurd (cc)
-  stays_refusing old new Memory None h refusal = absurd (cc)
 
   -- ---- one after the other
   pub stays_itself : (n : NodeState S) → StaysUp n n
@@ -84,14 +48,6 @@ module _ {S : Type 0} (storages : Ghosts S) where
 
   pub stays_then : (a b c : NodeState S) → StaysUp a b → StaysUp b c → StaysUp a c
   stays_then a b c h k = record { stays = λ is. k.stays (h.stays is) }
-
-  pub stays_same_then : (a b c : NodeState S) → StaysUp a b → c ≡ b → StaysUp a c
-  stays_same_then a b c h same = subst (λ (n : NodeState S). StaysUp a n) (sym same) h
-
-  pub stays_then_on : {A E : Type 0} (result : Result A E) (a b c : NodeState S) → StaysUp a b → OnOk result (StaysUp b c)
-      → OnOk result (StaysUp a c)
-  stays_then_on (Ok done) a b c h k = stays_then a b c h k
-  stays_then_on (Err fault) a b c h k = tt
 
 -- of any result
 pub stays_on : {A E P : Type 0} (result : Result A E) → P → OnOk result P

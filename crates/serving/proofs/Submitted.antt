@@ -1,12 +1,11 @@
--- What came of a request, and of a query.
-use Rattle.std.proofs.Common.{◌≡◌, ℕ, ◌-◌, Option, List, [], ◌∷◌, ◌++◌, length, slice_get, Some, None, Result, Ok, Err, inl, inr, ap, subst, ◌∙◌, arith, Bool, true, false, MatchBool, IfSome, refl}
-use Rattle.std.specs.Global.{Vec}
+-- What came of a request that was refused, and of a query.
+use Rattle.std.proofs.Common.{◌≡◌, ℕ, ◌-◌, Option, List, [], ◌∷◌, ◌++◌, length, slice_get, Some, None, Result, Ok, Err, ap, subst, ◌∙◌, arith, Bool, true, false, MatchBool, IfSome, refl}
 use Rattle.std.proofs.lemmas.List.{length_push}
 use Rattle.sessions.proofs.Longer.{get-push_last}
 use Rattle.sessions.specs.declared.submission.Submission.{Submission}
 use Rattle.store.specs.declared.query.Query.{Query}
 use Rattle.stable.specs.declared.stable.Stable.{Ghosts}
-use Rattle.node_model.specs.Faults.{is_stop_fault, node_code}
+use Rattle.node_model.specs.Faults.{is_stop_fault}
 use Rattle.node_model.specs.Nodes.{NodeState, NodeSteps, RefusesInput, StopsOnInput}
 use Rattle.node_model.specs.Replicas.{ReplicaState, refuses}
 use Rattle.node_model.specs.declared.input.Input.{Input}
@@ -16,28 +15,11 @@ use Rattle.world_model.specs.declared.lists.Answered.{Answered}
 use Rattle.world_model.specs.Lives.{Asked, Took}
 use Rattle.life.specs.Lives.{Does, LifeState}
 use Rattle.life.specs.declared.fault.LifeFault.{LifeFault}
-use Rattle.clients.specs.AnswerLines.{answer_line}
-use Rattle.clients.specs.declared.answer.ClientAnswer.TheVariants as answer
 use Rattle.serving.specs.Knowing.{Refuses}
 use Rattle.serving.specs.Refusals.{IsRefusal, IsRefused}
-use Rattle.serving.specs.Serving.{ServerState}
-use Rattle.serving.specs.Submitting.{IsSubmitted}
-use Rattle.serving.specs.declared.waiting.Due.TheVariants as due
 
 module _ {S : Type 0} (storages : Ghosts S) where
-  pub was_turned_away : (old new : ServerState S) (connection : ℕ) (submission : Submission) (fault : NodeFault)
-      (result : Result (Unit {0}) LifeFault)
-      → Does storages old.life (Took (input.Submit submission.client submission.number submission.op)) result new.life
-      → IsRefusal result (Ok (Some fault)) → (line : Vec ℕ)
-      → line.items ≡ answer_line (answer.Refused submission.client submission.number (node_code fault))
-      → new.waiting ≡ record old.waiting { due = old.waiting.due ++ due.Line connection line ∷ [] }
-      → IsSubmitted storages old connection submission new
-  was_turned_away old new connection submission fault result does refusal line spelled owed =
-      let Did : Result (Unit {0}) LifeFault → Type 0 =
-      λ r. Does storages old.life (Took (input.Submit submission.client submission.number submission.op)) r new.life in
-      inr (record { fault = fault; refuses = subst Did refusal.0 does; line = line; spelled = spelled; due = owed })
-
-  -- so the node was one that refuses it
+  -- a node that refused a request was one that refuses it
   fault_found : (old new : NodeState S) (m : ReplicaState) (given : Input) (fault : NodeFault) (stops : Bool) → stops ≡ false
       → MatchBool stops (StopsOnInput storages old m given fault new) (RefusesInput old m given fault new)
       → refuses m given ≡ Some fault
@@ -66,23 +48,6 @@ module _ {S : Type 0} (storages : Ghosts S) where
       λ r. Does storages old (Took (input.Submit submission.client submission.number submission.op)) r new in
       let goes = subst Did refusal.0 does in
       found_where_up old.node new.node submission fault goes.happens.0 refusal.1 old.node.up refl
-
-  pub was_taken : (old new : ServerState S) (connection : ℕ) (submission : Submission) (result : Result (Unit {0}) LifeFault)
-      (number : ℕ) → number ≡ submission.number
-      → Does storages old.life (Took (input.Submit submission.client submission.number submission.op)) result new.life
-      → IsRefusal result (Ok None)
-      → new.waiting ≡ record old.waiting {
-        claims = old.waiting.claims ++ (record { connection = connection; client = submission.client; number = number }) ∷ [];
-      }
-      → IsSubmitted storages old connection submission new
-  was_taken old new connection submission (Ok done) number is does refusal waits = inl (record {
-    said = does.0;
-    takes = does.1;
-    waits = waits ∙ ap (λ (n : ℕ). record old.waiting {
-      claims = old.waiting.claims ++ (record { connection = connection; client = submission.client; number = n }) ∷ [];
-    }) is;
-  })
-  was_taken old new connection submission (Err fault) number is does refusal waits = absurd (cc)
 
   -- a query that a node answered has its answer among those that are held
   pub asked_is_last : (old new : LifeState S) (query : Query) (result : Result (Unit {0}) LifeFault) (answers : List Answered)

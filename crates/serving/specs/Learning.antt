@@ -10,7 +10,7 @@ use Rattle.wire.specs.declared.frames.message.Message.TheVariants as message
 use Rattle.serving.specs.declared.server.Server.{Server}
 use Rattle.serving.specs.Requesting.{is_marked}
 use Rattle.serving.specs.Serving.{Passes}
-use Rattle.serving.specs.Tapes.{Carried, Sent, Arrived}
+use Rattle.serving.specs.Tapes.{Carried, Sent, Arrived, NothingCame}
 use Rattle.serving.specs.Timings.{TimingState, above, above_votes}
 
 pub record Known : Type 0 where
@@ -30,19 +30,19 @@ abbrev pub with_vote : ℕ → Known → Known
 with_vote slot k = record k { horizon = above k.horizon slot }
 
 -- one that came
-abbrev pub heard_in : Message → Known → Known
-heard_in (message.Prepare ballot first) k = with_ballot ballot k
-heard_in (message.Accept vote) k = with_vote vote.slot (with_ballot vote.ballot k)
-heard_in (message.Accepted vote) k = with_vote vote.slot k
-heard_in (message.Decided slot command) k = with_vote slot k
-heard_in (message.Promise promise) k = record k { horizon = above_votes k.horizon promise.entries }
-heard_in other k = k
+abbrev pub with_message : Message → Known → Known
+with_message (message.Prepare ballot first) k = with_ballot ballot k
+with_message (message.Accept vote) k = with_vote vote.slot (with_ballot vote.ballot k)
+with_message (message.Accepted vote) k = with_vote vote.slot k
+with_message (message.Decided slot command) k = with_vote slot k
+with_message (message.Promise promise) k = record k { horizon = above_votes k.horizon promise.entries }
+with_message other k = k
 
 -- one of its own: that it campaigns, or has voted
-abbrev pub said_in : Message → Known → Known
-said_in (message.Prepare ballot first) k = with_ballot ballot k
-said_in (message.Accepted vote) k = with_vote vote.slot k
-said_in other k = k
+abbrev pub with_own : Message → Known → Known
+with_own (message.Prepare ballot first) k = with_ballot ballot k
+with_own (message.Accepted vote) k = with_vote vote.slot k
+with_own other k = k
 
 -- ---- what passes tells: a request that is handed on does nothing, and bytes that are no frame
 abbrev pub by_frame : (Message → Known → Known) → Result Envelope WireFault → Known → Known
@@ -50,18 +50,15 @@ by_frame told (Ok e) k = told e.message k
 by_frame told (Err fault) k = k
 
 abbrev pub learn : ℕ → Known → Carried → Known
-learn nodes k (Arrived bytes) = if is_marked bytes then k else by_frame heard_in (frame_in nodes bytes) k
-learn nodes k (Sent to bytes) = if is_marked bytes then k else by_frame said_in (frame_in 7 bytes) k
+learn nodes k (Arrived bytes) = if is_marked bytes then k else by_frame with_message (frame_in nodes bytes) k
+learn nodes k (Sent to bytes) = if is_marked bytes then k else by_frame with_own (frame_in 7 bytes) k
+learn nodes k NothingCame = k
 
 -- what is known now is what was, and what passed has told
 abbrev pub Follows : ℕ → TimingState → TimingState → List Carried → Type 0
 Follows nodes old new passed = known_in new ≡ fold (learn nodes) (known_in old) passed
 
 -- ---- a process
--- it serves the same node, and knows as much
-abbrev pub KnowsAsMuch : {S : Type 0} → Server S → Server S → Type 0
-KnowsAsMuch old new = (new.own ≡ old.own) × (new.nodes ≡ old.nodes) × (known_in new.timing ≡ known_in old.timing)
-
 -- it serves the same node, and learns all that passes and nothing else
 pub record Learns {S N : Type 0} (tape : N → List Carried) (Tells : N → Type 0) (old : Server S) (network : N) (new : Server S)
     (network' : N) : Type 0 where

@@ -3,10 +3,12 @@ pub mod Clusters
 pub mod HandingOn
 pub mod Knowing
 pub mod Learning
+pub mod Moves
 pub mod Outgoing
 pub mod Owing
 pub mod Packets
 pub mod Patiences
+pub mod Processes
 pub mod Recovery
 pub mod Refusals
 pub mod Requesting
@@ -14,7 +16,6 @@ pub mod Resting
 pub mod Seen
 pub mod Serving
 pub mod Staying
-pub mod Submitting
 pub mod Tapes
 pub mod Ticking
 pub mod Timings

@@ -10,7 +10,7 @@ use Rattle.clients.specs.declared.answer.ClientAnswer.TheVariants as answer
 use Rattle.serving.specs.declared.claims.Claim.{Claim}
 use Rattle.serving.specs.HandingOn.{IsHandedTo}
 use Rattle.serving.specs.Serving.{ServerState}
-use Rattle.serving.specs.Tapes.{Carried, Sent, Arrived, Talk, Heard, Went, Told}
+use Rattle.serving.specs.Tapes.{Carried, Sent, Talk, Told}
 use Rattle.serving.specs.Turns.{handed_on}
 
 -- one of these frames goes to its receiver
@@ -22,7 +22,7 @@ pub record SpellsOneOf (frames : List Envelope) (to : ℕ) (bytes : List ℕ) : 
 
 abbrev pub IsFrameOf : List Envelope → Carried → Type 0
 IsFrameOf frames (Sent to bytes) = SpellsOneOf frames to bytes
-IsFrameOf frames (Arrived bytes) = ⊥
+IsFrameOf frames other = ⊥
 
 -- each of these frames goes to its receiver: once, in their order
 pub data AreFramesOf : List Envelope → List Carried → Type 0 where
@@ -33,7 +33,7 @@ pub data AreFramesOf : List Envelope → List Carried → Type 0 where
 -- this packet goes to a node to which requests are handed on
 abbrev pub IsPacketOf : Option ℕ → ℕ → List ℕ → Carried → Type 0
 IsPacketOf leader own packet (Sent to bytes) = (bytes ≡ packet) × IsHandedTo leader own to
-IsPacketOf leader own packet (Arrived bytes) = ⊥
+IsPacketOf leader own packet other = ⊥
 
 -- of so many nodes, it goes to each to which requests are handed on: once, in the order of their numbers
 pub data ArePacketsOf (leader : Option ℕ) (own : ℕ) (packet : List ℕ) : ℕ → List Carried → Type 0 where
@@ -43,15 +43,15 @@ pub data ArePacketsOf (leader : Option ℕ) (own : ℕ) (packet : List ℕ) : �
   passes_by : (node : ℕ) (sent : List Carried) → ArePacketsOf leader own packet node sent → ¬ IsHandedTo leader own node
       → ArePacketsOf leader own packet (node + 1) sent
 
--- it came
+-- it came, or nothing did
 abbrev pub IsArrival : Carried → Type 0
 IsArrival (Sent to bytes) = ⊥
-IsArrival (Arrived bytes) = ⊤
+IsArrival other = ⊤
 
 -- a request that is sent goes to a node to which requests are handed on
 abbrev pub IsRightlySent : Option ℕ → ℕ → Carried → Type 0
 IsRightlySent leader own (Sent to bytes) = (line : List ℕ) → bytes ≡ handed_on line → IsHandedTo leader own to
-IsRightlySent leader own (Arrived bytes) = ⊤
+IsRightlySent leader own other = ⊤
 
 -- one of these replies is told to a connection that waits for it by one of these claims
 pub record SettlesOneOf (replies : List Replied) (claims : List Claim) (connection : ℕ) (text : List ℕ) : Type 0 where
@@ -66,14 +66,12 @@ pub record SettlesOneOf (replies : List Replied) (claims : List Claim) (connecti
 
 abbrev pub IsReplyIn : List Replied → List Claim → Talk → Type 0
 IsReplyIn replies claims (Told connection text) = SettlesOneOf replies claims connection text
-IsReplyIn replies claims (Heard connection text) = ⊥
-IsReplyIn replies claims (Went connection) = ⊥
+IsReplyIn replies claims other = ⊥
 
 -- the connection is told this answer
 abbrev pub IsTextTo : ℕ → Answered → Talk → Type 0
 IsTextTo connection answered (Told to text) = (to ≡ connection) × (text ≡ text_line answered.position answered.text)
-IsTextTo connection answered (Heard to text) = ⊥
-IsTextTo connection answered (Went to) = ⊥
+IsTextTo connection answered other = ⊥
 
 -- what a process keeps of what waits, it had
 pub record KeepsLess {S : Type 0} (old new : ServerState S) : Type 0 where

@@ -1,5 +1,5 @@
 -- What a process owes its clients: one text for each line.
-use Rattle.std.specs.Prelude.{◌≡◌, ℕ, ◌==◌, ◌+◌, ◌<◌, ⊤, Bool, false, List, ◌++◌, map, All, Contains, count_by}
+use Rattle.std.specs.Prelude.{◌≡◌, ℕ, ◌==◌, ◌+◌, ◌<◌, ⊤, Bool, false, List, ◌++◌, map, Contains, count_by}
 use Rattle.std.specs.List.{filter}
 use Rattle.sessions.specs.SessionReplies.{outcome_code}
 use Rattle.world_model.specs.declared.lists.Replied.{Replied}
@@ -15,14 +15,12 @@ use Rattle.serving.specs.Waitings.{WaitingState, is_asked_by, is_told_to}
 -- a line that it wrote
 abbrev pub is_line_of : ℕ → Talk → Bool
 is_line_of connection (Heard by text) = by == connection
-is_line_of connection (Told to text) = false
-is_line_of connection (Went by) = false
+is_line_of connection other = false
 
 -- a text that it was told
 abbrev pub is_text_to : ℕ → Talk → Bool
-is_text_to connection (Heard by text) = false
 is_text_to connection (Told to text) = to == connection
-is_text_to connection (Went by) = false
+is_text_to connection other = false
 
 -- so many of its lines wait for their texts
 abbrev pub owed_to : ℕ → WaitingState → ℕ
@@ -32,8 +30,7 @@ owed_to connection waiting = count_by (is_for connection) waiting.claims + count
 -- a line that is read is one of a connection of which fewer wait than may
 abbrev pub HasRoom : WaitingState → Talk → Type 0
 HasRoom waiting (Heard connection text) = owed_to connection waiting < MOST_CLAIMS
-HasRoom waiting (Told connection text) = ⊤
-HasRoom waiting (Went connection) = ⊤
+HasRoom waiting other = ⊤
 
 -- ---- one text for each line
 -- each line of a connection that hasn't gone was answered by one text, or waits for it
@@ -58,11 +55,3 @@ reply_line replied = answer_line (answer.Reply replied.client replied.number (ou
 abbrev pub reply_told : Replied → List Claim → List Talk
 reply_told replied claims =
     map (λ claim. Told claim.connection (reply_line replied)) (filter (is_of replied.client replied.number) claims)
-
--- nobody waits for the reply any more
-abbrev pub IsSettled : List Claim → Replied → Type 0
-IsSettled claims replied = All (λ claim. is_of replied.client replied.number claim ≡ false) claims
-
--- nor for any of these
-pub record AllSettled (replies : List Replied) (claims : List Claim) : Type 0 where
-  pub settled : All (IsSettled claims) replies

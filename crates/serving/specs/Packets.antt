@@ -1,5 +1,5 @@
 -- What a process makes of a packet of another node.
-use Rattle.std.specs.Prelude.{◌≡◌, ◌≤◌, ◌⊎◌, ℕ, List, Result, Ok, Err}
+use Rattle.std.specs.Prelude.{◌≡◌, ◌<◌, ◌≤◌, ◌⊎◌, ℕ, List, Result, Ok, Err}
 use Rattle.sessions.specs.declared.submission.Submission.{Submission}
 use Rattle.stable.specs.declared.stable.Stable.{Ghosts}
 use Rattle.wire.specs.declared.frames.fault.WireFault.{WireFault}
@@ -16,14 +16,15 @@ use Rattle.serving.specs.Timings.{TimingState, seen}
 abbrev pub IsMessageTaken : {S : Type 0} → Ghosts S → ℕ → Result Envelope WireFault → LifeState S → TimingState → LifeState S → TimingState
     → Type 0
 IsMessageTaken storages now (Ok e) old knew new knows =
-    WasGiven storages old.node (input.Message e) new.node × (knows ≡ seen e.message now knew)
+    WasGiven storages old (input.Message e) new × (knows ≡ seen e.message now knew)
 IsMessageTaken storages now (Err fault) old knew new knows = (new ≡ old) × (knows ≡ knew)
 
--- the request has counted here, and nothing is done; or the node takes it
+-- the request has counted here, and nothing is done; or it hasn't, and the node is given it
 abbrev pub IsTakenOnce : {S : Type 0} → Ghosts S → Submission → LifeState S → LifeState S → Type 0
 IsTakenOnce storages submission old new =
     ((last : ℕ) × IsLastNumber old.node submission.client last × (submission.number ≤ last) × (new ≡ old))
-    ⊎ WasGiven storages old.node (input.Submit submission.client submission.number submission.op) new.node
+    ⊎ ((last : ℕ) × IsLastNumber old.node submission.client last × (last < submission.number)
+    × WasGiven storages old (input.Submit submission.client submission.number submission.op) new)
 
 abbrev pub SubmitsNothing : List ℕ → Type 0
 SubmitsNothing text = (submission : Submission) → ¬ IsClientLine text (line.Submit submission)

@@ -1,5 +1,5 @@
 -- The requests of a node's clients that may be handed on.
-use Rattle.std.specs.Prelude.{◌≡◌, ℕ, ◌==◌, ◌&&◌, ◌≤◌, ◌-◌, Bool, not, ⊤, Option, Some, None, List, [], ◌∷◌, ◌++◌, All, false, length, map}
+use Rattle.std.specs.Prelude.{◌≡◌, ℕ, ◌==◌, ◌&&◌, ◌≤◌, ◌-◌, Bool, not, ⊤, Option, Some, None, List, [], ◌∷◌, ◌++◌, All, false, length, map, if◌then◌else◌}
 use Rattle.std.specs.List.{filter, list_any}
 use Rattle.world_model.specs.declared.lists.Replied.{Replied}
 use Rattle.serving.specs.declared.hand_on.TheConstants.{HAND_ON_PERIOD}
@@ -31,6 +31,11 @@ abbrev pub fresh_request : ℕ → ℕ → List ℕ → RequestState
 fresh_request client number line =
     record { client = client; number = number; packet = HANDED_ON ∷ line; handed_on = None }
 
+-- one that waits already keeps its place
+abbrev pub with_request : ℕ → ℕ → List ℕ → List RequestState → List RequestState
+with_request client number line requests =
+    if is_known client number requests then requests else requests ++ fresh_request client number line ∷ []
+
 -- it is to be handed on: it never was, or long ago
 abbrev pub IsDueAt : ℕ → Option ℕ → Type 0
 IsDueAt now None = ⊤
@@ -47,8 +52,8 @@ NoneIsDue now requests = All (λ request. ¬ IsDue now request) requests
 abbrev pub as_new : RequestState → RequestState
 as_new request = record request { handed_on = None }
 
-abbrev pub unmarked : List RequestState → List RequestState
-unmarked requests = map as_new requests
+abbrev pub as_new_all : List RequestState → List RequestState
+as_new_all requests = map as_new requests
 
 -- the requests that none of these replies is to
 abbrev pub is_replied : List Replied → RequestState → Bool

@@ -1,11 +1,13 @@
 -- How a process is from one turn to the next.
-use Rattle.std.specs.Prelude.{◌≡◌, ◌+◌, ◌<◌, ℕ, true, List, [], Some, IfSome, All}
+use Rattle.std.specs.Prelude.{◌≡◌, ◌+◌, ◌<◌, ◌≤◌, ◌⊎◌, ℕ, true, List, [], Some, IfSome, All, Contains, count_by}
 use Rattle.node_model.specs.Nodes.{NodeState}
 use Rattle.node_model.specs.Replicas.{ReplicaState, is_full, position}
 use Rattle.serving.specs.declared.checkpoints.TheConstants.{SLOTS_BETWEEN_CHECKPOINTS}
+use Rattle.serving.specs.declared.server.TheConstants.{MOST_IN_A_TURN}
 use Rattle.serving.specs.declared.waiting.Question.{Question}
 use Rattle.serving.specs.Knowing.{IsPosition}
 use Rattle.serving.specs.Serving.{ServerState}
+use Rattle.serving.specs.Tapes.{Carried, NothingCame, NothingHeard, Talk, is_arrival, is_heard}
 use Rattle.serving.specs.Waitings.{IsHeldBack}
 
 -- no query that is held back may be answered by now
@@ -31,3 +33,12 @@ pub record Rests {S : Type 0} (s : ServerState S) : Type 0 where
   pub checkpointed : IsCheckpointed s.life.node
   -- nobody waits for what is executed never, and such a request is handed on to nobody
   pub full : IsFull s.life.node → (s.waiting.claims ≡ []) × (s.requests ≡ [])
+
+-- ---- how much a turn takes
+-- all that has come, or as much as one turn may
+abbrev pub HasTaken : List Carried → Type 0
+HasTaken carried = Contains carried NothingCame ⊎ (MOST_IN_A_TURN ≤ count_by is_arrival carried)
+
+-- all that clients did, or as much as one turn may
+abbrev pub HasListened : List Talk → Type 0
+HasListened talk = Contains talk NothingHeard ⊎ (MOST_IN_A_TURN ≤ count_by is_heard talk)

@@ -89,6 +89,15 @@ pub record Passes {T A : Type 0} (tape : T → List A) (Tells : T → Type 0) (A
   pub are : AreSo passed
   pub passes : HasPassed tape Tells old passed new
 
+-- between it and both
+pub record PassesBoth {N D : Type 0} (carried : N → List Carried) (Carries : N → Type 0) (talk : D → List Talk) (Talks : D → Type 0)
+    (AreSo : List Carried → List Talk → Type 0) (network : N) (desk : D) (network' : N) (desk' : D) : Type 0 where
+  pub sent : List Carried
+  pub said : List Talk
+  pub are : AreSo sent said
+  pub carries : HasPassed carried Carries network sent network'
+  pub talks : HasPassed talk Talks desk said desk'
+
 -- nothing passes but what is so
 pub record PassesOnly {T A : Type 0} (tape : T → List A) (Tells : T → Type 0) (IsSo : A → Type 0) (old new : T) : Type 0 where
   pub passed : List A

@@ -1,5 +1,5 @@
 -- What passes between a process, the other nodes and its clients.
-use Rattle.std.specs.Prelude.{◌≡◌, ℕ, List, [], ◌∷◌, ◌++◌, Option, Some, None, Result, Ok, Err}
+use Rattle.std.specs.Prelude.{◌≡◌, ℕ, Bool, true, false, List, [], ◌∷◌, ◌++◌, Option, Some, None, Result, Ok, Err}
 use Rattle.std.specs.Global.{Vec}
 use Rattle.serving.specs.declared.desk.Came.{Came}
 use Rattle.serving.specs.declared.desk.Came.TheVariants as came
@@ -10,12 +10,19 @@ pub data Carried : Type 0 where
   Sent : ℕ → List ℕ → Carried
   -- these bytes came
   Arrived : List ℕ → Carried
+  -- a poll found that nothing had come
+  NothingCame : Carried
 
--- what a poll hands over: nothing, where nothing has come or memory is wanting
+-- what a poll tells; nothing, where memory is wanting
 abbrev pub came_in : {E : Type 0} → Result (Option (Vec ℕ)) E → List Carried
 came_in (Ok (Some bytes)) = Arrived bytes.items ∷ []
-came_in (Ok None) = []
+came_in (Ok None) = NothingCame ∷ []
 came_in (Err fault) = []
+
+-- it came
+abbrev pub is_arrival : Carried → Bool
+is_arrival (Arrived bytes) = true
+is_arrival other = false
 
 -- ---- with clients, by connection
 pub data Talk : Type 0 where
@@ -25,17 +32,25 @@ pub data Talk : Type 0 where
   Went : ℕ → Talk
   -- it was told these bytes
   Told : ℕ → List ℕ → Talk
+  -- no client had done anything that may be read
+  NothingHeard : Talk
 
 -- what a client did
 abbrev pub heard : Came → Talk
 heard (came.Line connection text) = Heard connection text.items
 heard (came.Gone connection) = Went connection
 
--- what is read: nothing, where no client did anything or memory is wanting
+-- what a reading tells; nothing, where memory is wanting
 abbrev pub heard_in : {E : Type 0} → Result (Option Came) E → List Talk
 heard_in (Ok (Some what)) = heard what ∷ []
-heard_in (Ok None) = []
+heard_in (Ok None) = NothingHeard ∷ []
 heard_in (Err fault) = []
+
+-- a client did it
+abbrev pub is_heard : Talk → Bool
+is_heard (Heard connection text) = true
+is_heard (Went connection) = true
+is_heard other = false
 
 -- ---- what passes in a call
 -- where the tape tells afterwards it told before, and this is what passed; of any tape, by what it lists and whether it tells

@@ -31,7 +31,7 @@ use Rattle.serving.specs.declared.waiting.Due.TheVariants as due
 use Rattle.serving.specs.declared.waiting.Question.{Question}
 use Rattle.serving.specs.Knowing.{IsLastNumber, IsPosition, Refuses, WasSo}
 use Rattle.serving.specs.Requesting.{RequestState}
-use Rattle.serving.specs.Tapes.{Carried, Sent, Arrived, Talk, Heard, Went, Told}
+use Rattle.serving.specs.Tapes.{Carried, Sent, Arrived, Talk, Heard, Told}
 
 -- ---- all that a process did so far
 pub record Past : Type 0 where
@@ -100,7 +100,7 @@ pub record IsHandedOnLine (talk : List Talk) (bytes : List ℕ) : Type 0 where
 -- nothing but these is sent; anything may come
 abbrev pub MayPass : Past → Carried → Type 0
 MayPass past (Sent to bytes) = IsHandedOutFrame past.handed to bytes ⊎ IsHandedOnLine past.talk bytes
-MayPass past (Arrived bytes) = ⊤
+MayPass past other = ⊤
 
 -- ---- to clients
 -- a connection is told a reply that the life handed out, to a request that it made
@@ -142,8 +142,7 @@ pub data IsPlain {S : Type 0} (Was : NodeState S → Type 0) (talk : List Talk) 
 abbrev pub MayBeSaid : {S : Type 0} → Ghosts S → NodeState S → Past → Talk → Type 0
 MayBeSaid storages first past (Told connection text) = IsReplyToOwn past connection text ⊎ IsAnswerToOwn past connection text
     ⊎ IsPlain (WasSo storages first past.history) past.talk connection text
-MayBeSaid storages first past (Heard connection text) = ⊤
-MayBeSaid storages first past (Went connection) = ⊤
+MayBeSaid storages first past other = ⊤
 
 -- what is due at the end of a turn: a query to be answered, or a plain line
 abbrev pub MayBeDue : {S : Type 0} → (NodeState S → Type 0) → List Talk → Due → Type 0

@@ -1,13 +1,20 @@
 //! What the clients of all processes of a run may conclude. Nothing runs.
 
-ghost use Rattle.std.specs.Prelude.{◌≡◌, ℕ, List};
+ghost use Rattle.std.specs.Prelude.{◌≡◌, ◌<◌, ◌≤◌, ℕ, List};
 ghost use Rattle.sessions.specs.SessionReplies.{outcome_code};
 ghost use Rattle.node_model.specs.Nodes.{NodeState};
 ghost use Rattle.world_model.specs.Lives.{AreLives, Moment, StoragesAreHonest};
 ghost use Rattle.serving.specs.Clusters.{IsLogOf, IsServed};
 ghost use Rattle.serving.specs.Turns.{IsAnswerToOwn, IsReplyToOwn, Past};
 
+use crate::checkpoints::SLOTS_BETWEEN_CHECKPOINTS;
+use crate::claims::MOST_CLAIMS;
+use crate::hand_on::HAND_ON_PERIOD;
+use crate::patience::LEAST_PATIENCE;
+use crate::server::MOST_IN_A_TURN;
+use crate::ticks::{BUSY_PERIOD, IDLE_PERIOD};
 use stable::Stable;
+use synod::SLOTS;
 
 /// One list of submitted commands and no-ops explains every reply and every answer that any client of any process was ever told, where
 /// every storage is honest to the end.
@@ -27,4 +34,15 @@ pub fn clients_are_told_the_same<S: Stable>()
         → StoragesAreHonest S.Stable last → (one other : Past) → IsServed S.Stable moments one → IsServed S.Stable moments other
         → (here there : ℕ) (a b : List ℕ) → (mine : IsReplyToOwn one here a) → (yours : IsReplyToOwn other there b)
         → mine.replied.position ≡ yours.replied.position → outcome_code mine.replied.reply ≡ outcome_code yours.replied.reply }
+{}
+
+/// A turn takes something, and connections may wait. A checkpoint comes long before the log is full. A node that wants anything ticks
+/// before it hands on a request again, and that before any node is impatient.
+pub fn limits_are_in_order()
+    ensures turns { 0 < MOST_IN_A_TURN }
+    ensures claims { 0 < MOST_CLAIMS }
+    ensures checkpoints { SLOTS_BETWEEN_CHECKPOINTS < SLOTS }
+    ensures ticks { BUSY_PERIOD ≤ IDLE_PERIOD }
+    ensures hands_on { BUSY_PERIOD ≤ HAND_ON_PERIOD }
+    ensures patience { HAND_ON_PERIOD ≤ LEAST_PATIENCE }
 {}

@@ -32,7 +32,7 @@ pub use desk::{Came, Desk};
 pub use fault::TurnFault;
 pub use hand_on::{HAND_ON_PERIOD, is_due_again, is_handed_to};
 pub use horizon::Horizon;
-pub use laws::{clients_are_told_the_same, one_list_explains_clients};
+pub use laws::{clients_are_told_the_same, limits_are_in_order, one_list_explains_clients};
 pub use leader::Leader;
 pub use network::Network;
 pub use patience::{LEAST_PATIENCE, NODE_STEP, Patience, SPREADS};

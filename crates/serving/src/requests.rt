@@ -2,7 +2,7 @@
 
 ghost use Rattle.std.specs.Prelude.{◌≡◌, ◌<◌, ◌↔◌, ◌++◌, ◌∷◌, [], IsTrue, OnOk, OnErr, IfOk, IfSome, IfNone, All, filter, length, not, true};
 ghost use Rattle.std.specs.List.{HoldsAt};
-ghost use Rattle.serving.specs.Requesting.{fresh_request, is_known, is_marked, is_request, HandsOnFirst, IsDue};
+ghost use Rattle.serving.specs.Requesting.{fresh_request, is_known, is_marked, is_request, with_request, HandsOnFirst, IsDue};
 
 use super::hand_on::is_due_again;
 use std::alloc::{AllocError, Global};
@@ -66,9 +66,7 @@ impl Requests {
         number: u64,
         line: &[u8],
     ) -> Result<(), AllocError>
-        ensures again { IsTrue (is_known client number self.old) → self.new ≡ self.old }
-        ensures goes_last { ¬ IsTrue (is_known client number self.old)
-            → OnOk result (self.new ≡ self.old ++ fresh_request client number line.now ∷ []) }
+        ensures added { OnOk result (self.new ≡ with_request client number line.now self.old) }
         ensures err { OnErr result (self.new ≡ self.old) }
     {
         if self.has(client, number) {

@@ -1,18 +1,21 @@
 //! A process that serves a node.
 
-ghost use Rattle.std.specs.Prelude.{◌≡◌, [], OnOk, Result};
-ghost use Rattle.stable.specs.declared.stable.Stable.{Ghosts};
+ghost use Rattle.std.specs.Prelude.{◌≡◌, ℕ, [], Contains, IfOk, OnOk, Result, false};
 ghost use Rattle.node_model.specs.declared.fault.NodeFault.{NodeFault};
 ghost use Rattle.node_model.specs.declared.input.Input.TheVariants as input;
 ghost use Rattle.world_model.specs.Lives.{down_over};
+ghost use Rattle.life.specs.Telling.{nothing};
 ghost use Rattle.serving.specs.Knowing.{IsPosition};
-ghost use Rattle.serving.specs.Learning.{KnowsAsMuch, Learns};
+ghost use Rattle.serving.specs.Learning.{Learns};
+ghost use Rattle.serving.specs.Moves.{IsGivenWhere, IsTurn, KeepsTime, Moves};
+ghost use Rattle.serving.specs.Processes.{HasLooked};
 ghost use Rattle.serving.specs.Outgoing.{IsArrival, IsRightlySent};
 ghost use Rattle.serving.specs.Owing.{KeepsEachOver};
 ghost use Rattle.serving.specs.Requesting.{NoneIsDue};
-ghost use Rattle.serving.specs.Resting.{IsCheckpointed, Rests};
-ghost use Rattle.serving.specs.Serving.{IsServing, PassesOnly, Serves, ServesOver, begun, has_requests};
+ghost use Rattle.serving.specs.Resting.{HasListened, HasTaken, IsCheckpointed, Rests};
+ghost use Rattle.serving.specs.Serving.{IsServing, Passes, PassesBoth, PassesOnly, Serves, ServesOver, begun, has_requests};
 ghost use Rattle.serving.specs.Staying.{StaysUp, WasGiven};
+ghost use Rattle.serving.specs.Tapes.{NothingCame, NothingHeard};
 ghost use Rattle.serving.specs.Timings.{IsCampaignDue, IsTickDue, IsTimeLeft, campaigned, first_timing, leader_in};
 ghost use Rattle.serving.specs.Turns.{IsOfProcess};
 
@@ -56,9 +59,8 @@ pub struct Server<S> {
 impl<S: Stable + Drop> Server<S> {
     ghost use Rattle.std.specs.Prelude.{ℕ};
     ghost use Rattle.life.specs.Lives.{IsBorn};
-    ghost use Rattle.node_model.specs.Nodes.{NodeState};
     ghost use Rattle.life.specs.Seen.{life_of};
-    ghost use Rattle.serving.specs.Seen.{server_of};
+    ghost use Rattle.serving.specs.Seen.{process_of, server_of};
 
     /// Serves the node of this life, whose records have votes up to the horizon.
     pub fn new(
@@ -129,6 +131,16 @@ impl<S: Stable + Drop> Server<S> {
             network.old network.new) }
         ensures handed_on { OnOk result (NoneIsDue now self.new.requests) }
         ensures learns { OnOk result (Learns N.tape N.Tells self.old network.old self.new network.new) }
+        ensures moves { OnOk result (PassesBoth N.tape N.Tells D.tape D.Tells (λ sent said.
+            IsTurn S.Stable now (process_of self.old) sent said (process_of self.new)) network.old desk.old network.new desk.new) }
+        ensures held { OnOk result ((life_of self.new.life).held ≡ nothing) }
+        ensures own { OnOk result ((life_of self.new.life).own ≡ []) }
+        ensures quiet { IfOk result (λ more_came. more_came ≡ false
+            → Passes N.tape N.Tells (λ sent. Contains sent NothingCame) network.old network.new
+            × Passes D.tape D.Tells (λ said. Contains said NothingHeard) desk.old desk.new) }
+        ensures takes { OnOk result (Passes N.tape N.Tells HasTaken network.old network.new
+            × Passes D.tape D.Tells HasListened desk.old desk.new) }
+        ensures looked { OnOk result (HasLooked (process_of self.new)) }
     {
         let more_came = self.take(alloc, network, desk, now)?;
         let has_told = self.tell(alloc, network, desk, now)?;
@@ -149,11 +161,16 @@ impl<S: Stable + Drop> Server<S> {
     ) -> Result<bool, TurnFault>
         ensures serves { ServesOver S.Stable N.tape N.Tells D.tape D.Tells (server_of self.old) network.old desk.old
             (server_of self.new) network.new desk.new }
-        ensures each { OnOk result (KeepsEachOver D.tape D.Tells self.old.waiting desk.old self.new.waiting desk.new) }
-        ensures stays { OnOk result (StaysUp (life_of self.old.life).node (life_of self.new.life).node) }
         ensures comes { OnOk result (PassesOnly N.tape N.Tells IsArrival network.old network.new) }
         ensures checkpoints { OnOk result (IsCheckpointed (life_of self.new.life).node) }
-        ensures learns { OnOk result (Learns N.tape N.Tells self.old network.old self.new network.new) }
+        ensures moves { OnOk result (PassesBoth N.tape N.Tells D.tape D.Tells (λ sent said.
+            IsTurn S.Stable now (process_of self.old) sent said (process_of self.new)) network.old desk.old network.new desk.new) }
+        ensures own { OnOk result ((life_of self.new.life).own ≡ []) }
+        ensures quiet { IfOk result (λ more_came. more_came ≡ false
+            → Passes N.tape N.Tells (λ sent. Contains sent NothingCame) network.old network.new
+            × Passes D.tape D.Tells (λ said. Contains said NothingHeard) desk.old desk.new) }
+        ensures takes { OnOk result (Passes N.tape N.Tells HasTaken network.old network.new
+            × Passes D.tape D.Tells HasListened desk.old desk.new) }
     {
         let more_frames = self.take_frames(alloc, network, now)?;
         let more_lines = self.take_lines(alloc, desk)?;
@@ -173,14 +190,15 @@ impl<S: Stable + Drop> Server<S> {
     ) -> Result<bool, TurnFault>
         ensures serves { ServesOver S.Stable N.tape N.Tells D.tape D.Tells (server_of self.old) network.old desk.old
             (server_of self.new) network.new desk.new }
-        ensures each { OnOk result (KeepsEachOver D.tape D.Tells self.old.waiting desk.old self.new.waiting desk.new) }
-        ensures node { OnOk result ((life_of self.new.life).node ≡ (life_of self.old.life).node) }
         ensures due { OnOk result (self.new.waiting.due ≡ []) }
         ensures rests { OnOk result (IsCheckpointed (life_of self.old.life).node → Rests (server_of self.new)) }
         ensures sends { OnOk result (PassesOnly N.tape N.Tells (IsRightlySent (leader_in self.new.timing) self.new.own)
             network.old network.new) }
         ensures handed_on { OnOk result (NoneIsDue now self.new.requests) }
-        ensures learns { OnOk result (Learns N.tape N.Tells self.old network.old self.new network.new) }
+        ensures moves { OnOk result (PassesBoth N.tape N.Tells D.tape D.Tells (λ sent said.
+            Moves S.Stable now (process_of self.old) sent said (process_of self.new)) network.old desk.old network.new desk.new) }
+        ensures held { OnOk result ((life_of self.new.life).held ≡ nothing) }
+        ensures own { OnOk result ((life_of self.new.life).own ≡ (life_of self.old.life).own) }
     {
         let has_replied = self.let_out(alloc, network, desk, now)?;
         let has_answered = self.tell_ripe(alloc, desk)?;
@@ -200,9 +218,8 @@ impl<S: Stable + Drop> Server<S> {
     // What is due by the clock.
     fn keep_time(&mut self, alloc: Global, now: u64) -> Result<(), TurnFault>
         ensures serves { Serves S.Stable (server_of self.old) [] [] (server_of self.new) }
-        ensures waits { self.new.waiting ≡ self.old.waiting }
-        ensures stays { OnOk result (StaysUp (life_of self.old.life).node (life_of self.new.life).node) }
-        ensures knows { KnowsAsMuch self.old self.new }
+        ensures keeps { OnOk result (KeepsTime S.Stable now (process_of self.old) (life_of self.new.life) self.new.timing) }
+        ensures others { process_of self.new ≡ record (process_of self.old) { life = life_of self.new.life; timing = self.new.timing } }
     {
         let is_asked = self.is_asked();
         let position = self.position();
@@ -220,14 +237,9 @@ impl<S: Stable + Drop> Server<S> {
         now: u64,
     ) -> Result<(), TurnFault>
         ensures serves { Serves S.Stable (server_of self.old) [] [] (server_of self.new) }
-        ensures waits { self.new.waiting ≡ self.old.waiting }
-        ensures stays { OnOk result (StaysUp (life_of self.old.life).node (life_of self.new.life).node) }
-        ensures due { OnOk result (IsCampaignDue position is_asked now self.old.timing
-            → WasGiven S.Stable (life_of self.old.life).node input.Timeout (life_of self.new.life).node
-            × (self.new.timing ≡ campaigned now self.old.timing)) }
-        ensures idle { ¬ IsCampaignDue position is_asked now self.old.timing
-            → (self.new.life ≡ self.old.life) × (self.new.timing ≡ self.old.timing) }
-        ensures knows { KnowsAsMuch self.old self.new }
+        ensures campaigns { OnOk result (IsGivenWhere S.Stable (IsCampaignDue position is_asked now self.old.timing) input.Timeout
+            (campaigned now self.old.timing) (life_of self.old.life) self.old.timing (life_of self.new.life) self.new.timing) }
+        ensures others { process_of self.new ≡ record (process_of self.old) { life = life_of self.new.life; timing = self.new.timing } }
     {
         if !self.timing.is_campaign_due(position, is_asked, now) {
             return Ok(());
@@ -245,14 +257,9 @@ impl<S: Stable + Drop> Server<S> {
         now: u64,
     ) -> Result<(), TurnFault>
         ensures serves { Serves S.Stable (server_of self.old) [] [] (server_of self.new) }
-        ensures waits { self.new.waiting ≡ self.old.waiting }
-        ensures stays { OnOk result (StaysUp (life_of self.old.life).node (life_of self.new.life).node) }
-        ensures due { OnOk result (IsTickDue position is_asked now self.old.timing
-            → WasGiven S.Stable (life_of self.old.life).node input.Tick (life_of self.new.life).node
-            × (self.new.timing ≡ record self.old.timing { ticked = now })) }
-        ensures idle { ¬ IsTickDue position is_asked now self.old.timing
-            → (self.new.life ≡ self.old.life) × (self.new.timing ≡ self.old.timing) }
-        ensures knows { KnowsAsMuch self.old self.new }
+        ensures ticks { OnOk result (IsGivenWhere S.Stable (IsTickDue position is_asked now self.old.timing) input.Tick
+            (record self.old.timing { ticked = now }) (life_of self.old.life) self.old.timing (life_of self.new.life) self.new.timing) }
+        ensures others { process_of self.new ≡ record (process_of self.old) { life = life_of self.new.life; timing = self.new.timing } }
     {
         if !self.timing.tick(position, is_asked, now) {
             return Ok(());
@@ -263,14 +270,9 @@ impl<S: Stable + Drop> Server<S> {
     // A checkpoint where one is due, and what it stands for is taken out.
     fn keep_records(&mut self, alloc: Global) -> Result<(), TurnFault>
         ensures checkpoints { OnOk result (IsCheckpointed (life_of self.new.life).node) }
-        ensures due { OnOk result (¬ IsCheckpointed (life_of self.old.life).node
-            → (between : NodeState S) × WasGiven S.Stable (life_of self.old.life).node input.Checkpoint between
-            × WasGiven S.Stable between input.Trim (life_of self.new.life).node) }
-        ensures idle { IsCheckpointed (life_of self.old.life).node → self.new.life ≡ self.old.life }
         ensures serves { Serves S.Stable (server_of self.old) [] [] (server_of self.new) }
-        ensures waits { self.new.waiting ≡ self.old.waiting }
-        ensures stays { OnOk result (StaysUp (life_of self.old.life).node (life_of self.new.life).node) }
-        ensures knows { KnowsAsMuch self.old self.new }
+        ensures moves { (now : ℕ) → OnOk result (Moves S.Stable now (process_of self.old) [] [] (process_of self.new)) }
+        ensures own { OnOk result ((life_of self.new.life).own ≡ (life_of self.old.life).own) }
     {
         if !is_checkpoint_due(self.position(), self.life.node().floor()) {
             return Ok(());
@@ -283,12 +285,9 @@ impl<S: Stable + Drop> Server<S> {
     // The node takes what the process gives it by itself.
     fn give(&mut self, alloc: Global, input: Input) -> Result<(), TurnFault>
         requires { IsOfProcess input }
-        ensures gives { OnOk result (WasGiven S.Stable (life_of self.old.life).node input (life_of self.new.life).node) }
-        ensures knows { self.new.timing ≡ self.old.timing }
+        ensures gives { OnOk result (WasGiven S.Stable (life_of self.old.life) input (life_of self.new.life)) }
         ensures serves { Serves S.Stable (server_of self.old) [] [] (server_of self.new) }
-        ensures waits { self.new.waiting ≡ self.old.waiting }
-        ensures stays { OnOk result (StaysUp (life_of self.old.life).node (life_of self.new.life).node) }
-        ensures knows_as_much { KnowsAsMuch self.old self.new }
+        ensures others { process_of self.new ≡ record (process_of self.old) { life = life_of self.new.life } }
     {
         refusal(self.life.take(alloc, input))?;
         Ok(())

@@ -1,14 +1,15 @@
 //! What a process tells its clients.
 
-ghost use Rattle.std.specs.Prelude.{◌≡◌, ◌≤◌, ℕ, ◌+◌, ◌-◌, ◌∷◌, [], OnOk, IfOk, MatchBool, length};
+ghost use Rattle.std.specs.Prelude.{◌≡◌, ◌≤◌, ◌<◌, ℕ, ◌+◌, ◌-◌, ◌∷◌, ◌++◌, [], OnOk, IfOk, MatchBool, length};
+ghost use Rattle.life.specs.Telling.{nothing};
 ghost use Rattle.clients.specs.AnswerLines.{text_line};
+ghost use Rattle.serving.specs.Moves.{AreRepliesTold, IsAnswered, Moves};
 ghost use Rattle.serving.specs.Outgoing.{IsReplyIn, IsTextTo, KeepsLess};
 ghost use Rattle.serving.specs.Knowing.{IsPosition};
-ghost use Rattle.serving.specs.Learning.{KnowsAsMuch};
-ghost use Rattle.serving.specs.Owing.{AllSettled, KeepsEach, KeepsEachOver, reply_told};
+ghost use Rattle.serving.specs.Owing.{reply_told};
 ghost use Rattle.serving.specs.Requesting.{unreplied};
 ghost use Rattle.serving.specs.Resting.{IsFull, KeepsRequests, NoneIsRipe};
-ghost use Rattle.serving.specs.Serving.{PassesOnly, Serves, ServesClients, asking};
+ghost use Rattle.serving.specs.Serving.{Passes, PassesOnly, Serves, ServesClients, asking};
 ghost use Rattle.serving.specs.Tapes.{HasPassed, Told};
 
 use super::Server;
@@ -25,7 +26,7 @@ use world_model::{Answered, Replied};
 
 impl<S: Stable + Drop> Server<S> {
     ghost use Rattle.life.specs.Seen.{life_of};
-    ghost use Rattle.serving.specs.Seen.{server_of};
+    ghost use Rattle.serving.specs.Seen.{process_of, server_of};
 
     // Each reply goes to those who wait for it.
     pub(super) fn tell_replies<D: Desk>(
@@ -37,10 +38,13 @@ impl<S: Stable + Drop> Server<S> {
         ensures tells { PassesOnly D.tape D.Tells (IsReplyIn replies.now self.old.waiting.claims) desk.old desk.new }
         ensures keeps { KeepsLess (server_of self.old) (server_of self.new) }
         ensures life { self.new.life ≡ self.old.life }
-        ensures settled { OnOk result (AllSettled replies.now self.new.waiting.claims) }
-        ensures each { OnOk result (KeepsEachOver D.tape D.Tells self.old.waiting desk.old self.new.waiting desk.new) }
         ensures requests { OnOk result (self.new.requests ≡ unreplied replies.now self.old.requests) }
-        ensures knows { KnowsAsMuch self.old self.new }
+        ensures replies { OnOk result (Passes D.tape D.Tells (λ said.
+            AreRepliesTold self.old.waiting.claims replies.now said self.new.waiting.claims) desk.old desk.new) }
+        ensures others { process_of self.new ≡ record (process_of self.old) {
+          waiting = record self.old.waiting { claims = self.new.waiting.claims };
+          requests = self.new.requests;
+        } }
     {
         'replies: for replied in replies.iter() {
             tell_reply(alloc, desk, self.waiting.claims(), replied)?;
@@ -58,10 +62,12 @@ impl<S: Stable + Drop> Server<S> {
         desk: &mut D,
     ) -> Result<bool, TurnFault>
         ensures serves { ServesClients S.Stable D.tape D.Tells (server_of self.old) desk.old (server_of self.new) desk.new }
-        ensures each { OnOk result (KeepsEachOver D.tape D.Tells self.old.waiting desk.old self.new.waiting desk.new) }
         ensures node { OnOk result ((life_of self.new.life).node ≡ (life_of self.old.life).node) }
         ensures ripe { OnOk result (NoneIsRipe (life_of self.new.life).node self.new.waiting.questions) }
-        ensures knows { KnowsAsMuch self.old self.new }
+        ensures moves { (now : ℕ) → (life_of self.old.life).held ≡ nothing → OnOk result (Passes D.tape D.Tells (λ said.
+            Moves S.Stable now (process_of self.old) [] said (process_of self.new)) desk.old desk.new) }
+        ensures held { (life_of self.old.life).held ≡ nothing → OnOk result ((life_of self.new.life).held ≡ nothing) }
+        ensures own { OnOk result ((life_of self.new.life).own ≡ (life_of self.old.life).own) }
     {
         let mut has_told = false;
         'questions: for _ in 0..self.waiting.count_questions() {
@@ -76,12 +82,14 @@ impl<S: Stable + Drop> Server<S> {
     // The first such query: whether there is one.
     fn tell_next_ripe<D: Desk>(&mut self, alloc: Global, desk: &mut D) -> Result<bool, TurnFault>
         ensures serves { ServesClients S.Stable D.tape D.Tells (server_of self.old) desk.old (server_of self.new) desk.new }
-        ensures each { OnOk result (KeepsEachOver D.tape D.Tells self.old.waiting desk.old self.new.waiting desk.new) }
         ensures node { OnOk result ((life_of self.new.life).node ≡ (life_of self.old.life).node) }
         ensures less { IfOk result (λ has_told. MatchBool has_told
             (length self.new.waiting.questions + 1 ≡ length self.old.waiting.questions)
             (NoneIsRipe (life_of self.new.life).node self.new.waiting.questions)) }
-        ensures knows { KnowsAsMuch self.old self.new }
+        ensures moves { (now : ℕ) → (life_of self.old.life).held ≡ nothing → OnOk result (Passes D.tape D.Tells (λ said.
+            Moves S.Stable now (process_of self.old) [] said (process_of self.new)) desk.old desk.new) }
+        ensures held { (life_of self.old.life).held ≡ nothing → OnOk result ((life_of self.new.life).held ≡ nothing) }
+        ensures own { OnOk result ((life_of self.new.life).own ≡ (life_of self.old.life).own) }
     {
         let position = self.position();
         let Some(question) = self.waiting.ripe(position) else {
@@ -95,11 +103,11 @@ impl<S: Stable + Drop> Server<S> {
     // new one is.
     pub(super) fn turn_away(&mut self, alloc: Global) -> Result<(), TurnFault>
         ensures serves { Serves S.Stable (server_of self.old) [] [] (server_of self.new) }
-        ensures each { OnOk result (KeepsEach [] self.old.waiting self.new.waiting) }
         ensures life { self.new.life ≡ self.old.life }
         ensures questions { self.new.waiting.questions ≡ self.old.waiting.questions }
         ensures full { OnOk result (IsFull (life_of self.new.life).node → (self.new.waiting.claims ≡ []) × (self.new.requests ≡ [])) }
-        ensures knows { KnowsAsMuch self.old self.new }
+        ensures moves { (now : ℕ) → (life_of self.old.life).held ≡ nothing
+            → OnOk result (Moves S.Stable now (process_of self.old) [] [] (process_of self.new)) }
     {
         if self.position() < SLOTS {
             return Ok(());
@@ -115,11 +123,11 @@ impl<S: Stable + Drop> Server<S> {
     fn turn_away_next(&mut self, alloc: Global) -> Result<bool, TurnFault>
         requires { IsFull (life_of self.old.life).node }
         ensures serves { Serves S.Stable (server_of self.old) [] [] (server_of self.new) }
-        ensures each { OnOk result (KeepsEach [] self.old.waiting self.new.waiting) }
         ensures life { self.new.life ≡ self.old.life }
         ensures questions { self.new.waiting.questions ≡ self.old.waiting.questions }
         ensures less { OnOk result (length self.new.waiting.claims ≡ length self.old.waiting.claims - 1) }
-        ensures knows { KnowsAsMuch self.old self.new }
+        ensures moves { (now : ℕ) → (life_of self.old.life).held ≡ nothing
+            → OnOk result (Moves S.Stable now (process_of self.old) [] [] (process_of self.new)) }
     {
         let Some(claim) = self.waiting.take_claim() else {
             return Ok(false);
@@ -144,13 +152,16 @@ impl<S: Stable + Drop> Server<S> {
         desk: &mut D,
     ) -> Result<bool, TurnFault>
         ensures serves { ServesClients S.Stable D.tape D.Tells (server_of self.old) desk.old (server_of self.new) desk.new }
-        ensures each { OnOk result (KeepsEachOver D.tape D.Tells self.old.waiting desk.old self.new.waiting desk.new) }
         ensures node { OnOk result ((life_of self.new.life).node ≡ (life_of self.old.life).node) }
         ensures ripe { OnOk result (NoneIsRipe (life_of self.old.life).node self.old.waiting.questions
             → NoneIsRipe (life_of self.new.life).node self.new.waiting.questions) }
         ensures requests { KeepsRequests (server_of self.old) (server_of self.new) }
         ensures told { OnOk result (self.new.waiting.due ≡ []) }
-        ensures knows { KnowsAsMuch self.old self.new }
+        ensures moves { (now : ℕ) → (life_of self.old.life).held ≡ nothing
+            → NoneIsRipe (life_of self.old.life).node self.old.waiting.questions → OnOk result (Passes D.tape D.Tells (λ said.
+            Moves S.Stable now (process_of self.old) [] said (process_of self.new)) desk.old desk.new) }
+        ensures held { (life_of self.old.life).held ≡ nothing → OnOk result ((life_of self.new.life).held ≡ nothing) }
+        ensures own { OnOk result ((life_of self.new.life).own ≡ (life_of self.old.life).own) }
     {
         let count = self.waiting.count_due();
         'due: for _ in 0..count {
@@ -162,13 +173,16 @@ impl<S: Stable + Drop> Server<S> {
     // What is due next: whether anything is.
     fn tell_next_due<D: Desk>(&mut self, alloc: Global, desk: &mut D) -> Result<bool, TurnFault>
         ensures serves { ServesClients S.Stable D.tape D.Tells (server_of self.old) desk.old (server_of self.new) desk.new }
-        ensures each { OnOk result (KeepsEachOver D.tape D.Tells self.old.waiting desk.old self.new.waiting desk.new) }
         ensures node { OnOk result ((life_of self.new.life).node ≡ (life_of self.old.life).node) }
         ensures ripe { OnOk result (NoneIsRipe (life_of self.old.life).node self.old.waiting.questions
             → NoneIsRipe (life_of self.new.life).node self.new.waiting.questions) }
         ensures requests { KeepsRequests (server_of self.old) (server_of self.new) }
         ensures less { OnOk result (length self.new.waiting.due ≡ length self.old.waiting.due - 1) }
-        ensures knows { KnowsAsMuch self.old self.new }
+        ensures moves { (now : ℕ) → (life_of self.old.life).held ≡ nothing
+            → NoneIsRipe (life_of self.old.life).node self.old.waiting.questions → OnOk result (Passes D.tape D.Tells (λ said.
+            Moves S.Stable now (process_of self.old) [] said (process_of self.new)) desk.old desk.new) }
+        ensures held { (life_of self.old.life).held ≡ nothing → OnOk result ((life_of self.new.life).held ≡ nothing) }
+        ensures own { OnOk result ((life_of self.new.life).own ≡ (life_of self.old.life).own) }
     {
         let Some(what) = self.waiting.take_due() else {
             return Ok(false);
@@ -194,8 +208,6 @@ impl<S: Stable + Drop> Server<S> {
     ) -> Result<(), TurnFault>
         ensures serves { ServesClients S.Stable D.tape D.Tells (asking (server_of self.old) question) desk.old
             (server_of self.new) desk.new }
-        ensures each { OnOk result (KeepsEachOver D.tape D.Tells (asking (server_of self.old) question).waiting desk.old
-            self.new.waiting desk.new) }
         ensures asked { (position : ℕ) → IsPosition (life_of self.old.life).node position → question.from ≤ position
             → self.new.waiting ≡ self.old.waiting }
         ensures node { OnOk result ((life_of self.new.life).node ≡ (life_of self.old.life).node) }
@@ -203,7 +215,16 @@ impl<S: Stable + Drop> Server<S> {
             → NoneIsRipe (life_of self.new.life).node self.new.waiting.questions) }
         ensures requests { KeepsRequests (server_of self.old) (server_of self.new) }
         ensures due { self.new.waiting.due ≡ self.old.waiting.due }
-        ensures knows { KnowsAsMuch self.old self.new }
+        ensures answers { (position : ℕ) → IsPosition (life_of self.old.life).node position → question.from ≤ position
+            → OnOk result (Passes D.tape D.Tells (λ said.
+            IsAnswered S.Stable (life_of self.old.life) question said (life_of self.new.life)) desk.old desk.new) }
+        ensures holds_back { (position : ℕ) → IsPosition (life_of self.old.life).node position → position < question.from
+            → (desk.new ≡ desk.old) × (life_of self.new.life ≡ life_of self.old.life) × OnOk result (self.new.waiting
+            ≡ record self.old.waiting { questions = self.old.waiting.questions ++ question ∷ [] }) }
+        ensures others { process_of self.new ≡ record (process_of self.old) {
+          life = life_of self.new.life;
+          waiting = self.new.waiting;
+        } }
     {
         if self.position() < question.from {
             self.waiting

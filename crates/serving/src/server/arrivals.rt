@@ -1,17 +1,17 @@
 //! What comes to a process from the other nodes, and from its own.
 
-ghost use Rattle.std.specs.Prelude.{◌≡◌, ◌≢◌, ◌≤◌, ℕ, List, ◌∷◌, [], IfOk, IsTrue, MatchOption, OnOk, ◌↔◌};
+ghost use Rattle.std.specs.Prelude.{◌≡◌, ◌≤◌, ℕ, ◌∷◌, [], IfOk, IsTrue, MatchBool, MatchOption, OnOk, Contains, count_by, true, false, ◌↔◌};
 ghost use Rattle.wire.specs.FrameReading.{frame_in};
 ghost use Rattle.node_model.specs.declared.input.Input.TheVariants as input;
 ghost use Rattle.clients.specs.ClientLines.{IsClientLine};
 ghost use Rattle.clients.specs.declared.line.ClientLine.TheVariants as client_line;
 ghost use Rattle.serving.specs.Knowing.{IsLastNumber};
-ghost use Rattle.serving.specs.Learning.{Follows, KnowsAsMuch, Learns};
+ghost use Rattle.serving.specs.Moves.{Moves, TakesOwn};
 ghost use Rattle.serving.specs.Outgoing.{IsArrival};
 ghost use Rattle.serving.specs.Packets.{IsMessageTaken, IsTakenOnce, IsTakenOver, SubmitsNothing};
-ghost use Rattle.serving.specs.Serving.{PassesOnly, Serves, ServesNodes};
-ghost use Rattle.serving.specs.Staying.{StaysUp};
-ghost use Rattle.serving.specs.Tapes.{Arrived};
+ghost use Rattle.serving.specs.Resting.{HasTaken};
+ghost use Rattle.serving.specs.Serving.{Passes, PassesOnly, Serves, ServesNodes};
+ghost use Rattle.serving.specs.Tapes.{Arrived, NothingCame, is_arrival};
 ghost use Rattle.serving.specs.Turns.{handed_on};
 
 use super::{MOST_IN_A_TURN, Server};
@@ -28,7 +28,7 @@ use wire::{WireFault, decode};
 
 impl<S: Stable + Drop> Server<S> {
     ghost use Rattle.life.specs.Seen.{life_of};
-    ghost use Rattle.serving.specs.Seen.{server_of};
+    ghost use Rattle.serving.specs.Seen.{process_of, server_of};
 
     // What other nodes sent: whether more may have come.
     pub(super) fn take_frames<N: Network>(
@@ -38,10 +38,12 @@ impl<S: Stable + Drop> Server<S> {
         now: u64,
     ) -> Result<bool, TurnFault>
         ensures serves { ServesNodes S.Stable N.tape N.Tells (server_of self.old) network.old (server_of self.new) network.new }
-        ensures waits { self.new.waiting ≡ self.old.waiting }
-        ensures stays { OnOk result (StaysUp (life_of self.old.life).node (life_of self.new.life).node) }
         ensures comes { OnOk result (PassesOnly N.tape N.Tells IsArrival network.old network.new) }
-        ensures learns { OnOk result (Learns N.tape N.Tells self.old network.old self.new network.new) }
+        ensures moves { OnOk result (Passes N.tape N.Tells (λ sent. Moves S.Stable now (process_of self.old) sent [] (process_of self.new))
+            network.old network.new) }
+        ensures quiet { IfOk result (λ more. more ≡ false → Passes N.tape N.Tells (λ sent. Contains sent NothingCame)
+            network.old network.new) }
+        ensures takes { OnOk result (Passes N.tape N.Tells HasTaken network.old network.new) }
     {
         'frames: for _ in 0..MOST_IN_A_TURN {
             if !self.take_next_frame(alloc, network, now)? {
@@ -59,10 +61,13 @@ impl<S: Stable + Drop> Server<S> {
         now: u64,
     ) -> Result<bool, TurnFault>
         ensures serves { ServesNodes S.Stable N.tape N.Tells (server_of self.old) network.old (server_of self.new) network.new }
-        ensures waits { self.new.waiting ≡ self.old.waiting }
-        ensures stays { OnOk result (StaysUp (life_of self.old.life).node (life_of self.new.life).node) }
         ensures comes { OnOk result (PassesOnly N.tape N.Tells IsArrival network.old network.new) }
-        ensures learns { OnOk result (Learns N.tape N.Tells self.old network.old self.new network.new) }
+        ensures moves { OnOk result (Passes N.tape N.Tells (λ sent. Moves S.Stable now (process_of self.old) sent [] (process_of self.new))
+            network.old network.new) }
+        ensures quiet { IfOk result (λ more. more ≡ false → Passes N.tape N.Tells (λ sent. Contains sent NothingCame)
+            network.old network.new) }
+        ensures takes { IfOk result (λ came. came ≡ true → Passes N.tape N.Tells (λ sent. count_by is_arrival sent ≡ 1)
+            network.old network.new) }
     {
         let came = network.poll(alloc)?;
         let Some(bytes) = came else {
@@ -76,14 +81,7 @@ impl<S: Stable + Drop> Server<S> {
     // A frame of another node, or a request that it hands on. Anything else is passed over.
     fn take_frame(&mut self, alloc: Global, bytes: &[u8], now: u64) -> Result<(), TurnFault>
         ensures serves { Serves S.Stable (server_of self.old) (Arrived bytes.now ∷ []) [] (server_of self.new) }
-        ensures waits { self.new.waiting ≡ self.old.waiting }
-        ensures stays { OnOk result (StaysUp (life_of self.old.life).node (life_of self.new.life).node) }
-        ensures message { ((line : List ℕ) → bytes.now ≢ handed_on line) → OnOk result (IsMessageTaken S.Stable now
-            (frame_in self.old.nodes bytes.now) (life_of self.old.life) self.old.timing (life_of self.new.life) self.new.timing) }
-        ensures line { (line : List ℕ) → bytes.now ≡ handed_on line
-            → OnOk result (IsTakenOver S.Stable line (life_of self.old.life) (life_of self.new.life)) }
-        ensures node { (self.new.own ≡ self.old.own) × (self.new.nodes ≡ self.old.nodes) }
-        ensures learns { OnOk result (Follows self.old.nodes self.old.timing self.new.timing (Arrived bytes.now ∷ [])) }
+        ensures moves { OnOk result (Moves S.Stable now (process_of self.old) (Arrived bytes.now ∷ []) [] (process_of self.new)) }
     {
         if let Some(line) = bytes.strip_prefix(&[HANDED_ON]) {
             return self.take_handed_on(alloc, line);
@@ -94,11 +92,9 @@ impl<S: Stable + Drop> Server<S> {
     // A frame of another node. Anything else is passed over.
     fn take_message(&mut self, alloc: Global, bytes: &[u8], now: u64) -> Result<(), TurnFault>
         ensures serves { Serves S.Stable (server_of self.old) (Arrived bytes.now ∷ []) [] (server_of self.new) }
-        ensures waits { self.new.waiting ≡ self.old.waiting }
-        ensures stays { OnOk result (StaysUp (life_of self.old.life).node (life_of self.new.life).node) }
         ensures taken { OnOk result (IsMessageTaken S.Stable now (frame_in self.old.nodes bytes.now)
             (life_of self.old.life) self.old.timing (life_of self.new.life) self.new.timing) }
-        ensures node { (self.new.own ≡ self.old.own) × (self.new.nodes ≡ self.old.nodes) }
+        ensures others { process_of self.new ≡ record (process_of self.old) { life = life_of self.new.life; timing = self.new.timing } }
     {
         match decode(alloc, bytes, self.nodes) {
             Ok(envelope) => {
@@ -114,10 +110,8 @@ impl<S: Stable + Drop> Server<S> {
     // A line that another process hands on: a request that its client waits for. Anything else is passed over.
     fn take_handed_on(&mut self, alloc: Global, line: &[u8]) -> Result<(), TurnFault>
         ensures serves { Serves S.Stable (server_of self.old) (Arrived (handed_on line.now) ∷ []) [] (server_of self.new) }
-        ensures waits { self.new.waiting ≡ self.old.waiting }
-        ensures stays { OnOk result (StaysUp (life_of self.old.life).node (life_of self.new.life).node) }
         ensures taken { OnOk result (IsTakenOver S.Stable line.now (life_of self.old.life) (life_of self.new.life)) }
-        ensures knows { KnowsAsMuch self.old self.new }
+        ensures others { process_of self.new ≡ record (process_of self.old) { life = life_of self.new.life } }
     {
         let found = submission_in(alloc, line)?;
         let Some(submission) = found else {
@@ -135,12 +129,8 @@ impl<S: Stable + Drop> Server<S> {
     ) -> Result<(), TurnFault>
         requires { IsClientLine line.now (client_line.Submit submission) }
         ensures serves { Serves S.Stable (server_of self.old) (Arrived (handed_on line.now) ∷ []) [] (server_of self.new) }
-        ensures once { (last : ℕ) → IsLastNumber (life_of self.old.life).node submission.client last
-            → submission.number ≤ last → life_of self.new.life ≡ life_of self.old.life }
         ensures taken { OnOk result (IsTakenOnce S.Stable submission (life_of self.old.life) (life_of self.new.life)) }
-        ensures waits { self.new.waiting ≡ self.old.waiting }
-        ensures stays { OnOk result (StaysUp (life_of self.old.life).node (life_of self.new.life).node) }
-        ensures knows { KnowsAsMuch self.old self.new }
+        ensures others { process_of self.new ≡ record (process_of self.old) { life = life_of self.new.life } }
     {
         if self.has_counted(submission.client, submission.number.value()) {
             return Ok(());
@@ -164,27 +154,27 @@ impl<S: Stable + Drop> Server<S> {
         self.life.node().last_number(client)
     }
 
-    // The node's frames to itself, and those that come of them.
+    // The node's frames to itself, and those that come of them, until none waits.
     pub(super) fn take_own(&mut self, alloc: Global) -> Result<(), TurnFault>
         ensures serves { Serves S.Stable (server_of self.old) [] [] (server_of self.new) }
-        ensures waits { self.new.waiting ≡ self.old.waiting }
-        ensures stays { OnOk result (StaysUp (life_of self.old.life).node (life_of self.new.life).node) }
-        ensures knows { KnowsAsMuch self.old self.new }
+        ensures moves { (now : ℕ) → OnOk result (Moves S.Stable now (process_of self.old) [] [] (process_of self.new)) }
+        ensures own { OnOk result ((life_of self.new.life).own ≡ []) }
     {
         'own: for _ in 0..u64::MAX {
             if !self.take_back(alloc)? {
                 return Ok(());
             }
         }
-        Ok(())
+        // No process lives long enough to come here.
+        Err(TurnFault::Memory)
     }
 
     // The node's frame to itself that has waited longest: whether there is one. One that it refuses is gone.
     fn take_back(&mut self, alloc: Global) -> Result<bool, TurnFault>
         ensures serves { Serves S.Stable (server_of self.old) [] [] (server_of self.new) }
-        ensures waits { self.new.waiting ≡ self.old.waiting }
-        ensures stays { OnOk result (StaysUp (life_of self.old.life).node (life_of self.new.life).node) }
-        ensures knows { KnowsAsMuch self.old self.new }
+        ensures others { process_of self.new ≡ record (process_of self.old) { life = life_of self.new.life } }
+        ensures takes { IfOk result (λ taken. MatchBool taken (TakesOwn S.Stable (life_of self.old.life) (life_of self.new.life))
+            (((life_of self.old.life).own ≡ []) × (life_of self.new.life ≡ life_of self.old.life))) }
     {
         match self.life.take_back(alloc) {
             Ok(taken) => Ok(taken),

@@ -1,11 +1,12 @@
 //! What a process sends to the other nodes.
 
 ghost use Rattle.std.specs.Prelude.{◌≡◌, ◌∷◌, [], OnOk, IfOk, MatchBool};
-ghost use Rattle.serving.specs.Learning.{Learns};
+ghost use Rattle.life.specs.Telling.{nothing};
+ghost use Rattle.serving.specs.Moves.{Moves};
 ghost use Rattle.serving.specs.Outgoing.{AreFramesOf, ArePacketsOf, IsFrameOf, IsPacketOf, IsRightlySent};
-ghost use Rattle.serving.specs.Owing.{AllSettled, KeepsEachOver};
-ghost use Rattle.serving.specs.Requesting.{HandsOnFirst, NoneIsDue, unmarked, unreplied};
-ghost use Rattle.serving.specs.Serving.{Passes, PassesOnly, ServesNodes, ServesOver};
+ghost use Rattle.serving.specs.Requesting.{HandsOnFirst, NoneIsDue, as_new_all, unreplied};
+ghost use Rattle.serving.specs.Resting.{IsFull};
+ghost use Rattle.serving.specs.Serving.{Passes, PassesBoth, PassesOnly, ServesNodes, ServesOver};
 ghost use Rattle.serving.specs.Timings.{all_own_seen, leader_in, own_seen};
 
 use super::Server;
@@ -21,7 +22,7 @@ use wire::{Frame, Message};
 impl<S: Stable + Drop> Server<S> {
     ghost use Rattle.std.specs.Prelude.{ℕ};
     ghost use Rattle.life.specs.Seen.{life_of};
-    ghost use Rattle.serving.specs.Seen.{server_of};
+    ghost use Rattle.serving.specs.Seen.{process_of, server_of};
 
     // What the life holds goes out: frames to the other nodes, and replies to those who wait for them. Whether there was a reply.
     pub(super) fn let_out<N: Network, D: Desk>(
@@ -33,13 +34,13 @@ impl<S: Stable + Drop> Server<S> {
     ) -> Result<bool, TurnFault>
         ensures serves { ServesOver S.Stable N.tape N.Tells D.tape D.Tells (server_of self.old) network.old desk.old
             (server_of self.new) network.new desk.new }
-        ensures each { OnOk result (KeepsEachOver D.tape D.Tells self.old.waiting desk.old self.new.waiting desk.new) }
-        ensures settled { OnOk result (AllSettled (life_of self.old.life).held.replies self.new.waiting.claims) }
         ensures node { OnOk result ((life_of self.new.life).node ≡ (life_of self.old.life).node) }
         ensures frames { OnOk result (PassesOnly N.tape N.Tells (IsFrameOf (life_of self.old.life).held.frames) network.old network.new) }
-        ensures all { OnOk result (Passes N.tape N.Tells (AreFramesOf (life_of self.old.life).held.frames) network.old network.new) }
         ensures requests { OnOk result (self.new.requests ≡ unreplied (life_of self.old.life).held.replies self.old.requests) }
-        ensures learns { OnOk result (Learns N.tape N.Tells self.old network.old self.new network.new) }
+        ensures moves { OnOk result (PassesBoth N.tape N.Tells D.tape D.Tells (λ sent said.
+            Moves S.Stable now (process_of self.old) sent said (process_of self.new)) network.old desk.old network.new desk.new) }
+        ensures held { OnOk result ((life_of self.new.life).held ≡ nothing) }
+        ensures own { OnOk result ((life_of self.new.life).own ≡ (life_of self.old.life).own) }
     {
         let Told {
             frames,
@@ -63,8 +64,8 @@ impl<S: Stable + Drop> Server<S> {
         ensures sends { PassesOnly N.tape N.Tells (IsFrameOf frames.now) network.old network.new }
         ensures same { server_of self.new ≡ server_of self.old }
         ensures all { OnOk result (Passes N.tape N.Tells (AreFramesOf frames.now) network.old network.new) }
+        ensures node { (self.new.own ≡ self.old.own) × (self.new.nodes ≡ self.old.nodes) }
         ensures seen { OnOk result (self.new.timing ≡ all_own_seen frames.now now self.old.timing) }
-        ensures learns { OnOk result (Learns N.tape N.Tells self.old network.old self.new network.new) }
     {
         'frames: for frame in frames.iter() {
             self.note_sent(alloc, frame, now)?;
@@ -104,9 +105,11 @@ impl<S: Stable + Drop> Server<S> {
         ensures none { self.old.requests ≡ [] → self.new.requests ≡ [] }
         ensures sends { OnOk result (PassesOnly N.tape N.Tells (IsRightlySent (leader_in self.old.timing) self.old.own)
             network.old network.new) }
-        ensures keeps { unmarked self.new.requests ≡ unmarked self.old.requests }
+        ensures keeps { as_new_all self.new.requests ≡ as_new_all self.old.requests }
         ensures all { OnOk result (NoneIsDue now self.new.requests) }
-        ensures learns { OnOk result (Learns N.tape N.Tells self.old network.old self.new network.new) }
+        ensures moves { (life_of self.old.life).held ≡ nothing → (IsFull (life_of self.old.life).node → self.old.requests ≡ [])
+            → OnOk result (Passes N.tape N.Tells (λ sent. Moves S.Stable now (process_of self.old) sent [] (process_of self.new))
+            network.old network.new) }
     {
         'packets: for _ in 0..self.requests.count() {
             if !self.hand_on_next(alloc, network, now)? {
@@ -130,11 +133,13 @@ impl<S: Stable + Drop> Server<S> {
         ensures none { self.old.requests ≡ [] → self.new.requests ≡ [] }
         ensures sends { OnOk result (PassesOnly N.tape N.Tells (IsRightlySent (leader_in self.old.timing) self.old.own)
             network.old network.new) }
-        ensures keeps { unmarked self.new.requests ≡ unmarked self.old.requests }
+        ensures keeps { as_new_all self.new.requests ≡ as_new_all self.old.requests }
         ensures first { IfOk result (λ has_handed. MatchBool has_handed
             ((place : ℕ) × HandsOnFirst now place self.old.requests self.new.requests)
             ((self.new.requests ≡ self.old.requests) × NoneIsDue now self.old.requests)) }
-        ensures learns { OnOk result (Learns N.tape N.Tells self.old network.old self.new network.new) }
+        ensures moves { (life_of self.old.life).held ≡ nothing → (IsFull (life_of self.old.life).node → self.old.requests ≡ [])
+            → OnOk result (Passes N.tape N.Tells (λ sent. Moves S.Stable now (process_of self.old) sent [] (process_of self.new))
+            network.old network.new) }
     {
         let Some(place) = self.requests.next_due(now) else {
             return Ok(false);

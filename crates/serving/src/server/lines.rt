@@ -1,17 +1,15 @@
 //! What the clients of a process write.
 
-ghost use Rattle.std.specs.Prelude.{◌≡◌, ◌∷◌, [], OnOk, length, min};
+ghost use Rattle.std.specs.Prelude.{◌≡◌, ℕ, ◌∷◌, [], Contains, IfOk, OnOk, count_by, true, false};
+ghost use Rattle.std.specs.Global.{Vec};
 ghost use Rattle.clients.specs.AnswerLines.{answer_line};
 ghost use Rattle.clients.specs.ClientLines.{IsClientFault, IsClientLine};
 ghost use Rattle.clients.specs.declared.line.ClientLine.TheVariants as client_line;
-ghost use Rattle.serving.specs.Knowing.{IsPosition};
-ghost use Rattle.serving.specs.Learning.{KnowsAsMuch};
-ghost use Rattle.serving.specs.Owing.{HasRoom, KeepsEach, KeepsEachOver};
-ghost use Rattle.serving.specs.Serving.{PassesOnly, Serves, ServesClients};
-ghost use Rattle.serving.specs.Staying.{StaysUp};
-ghost use Rattle.serving.specs.Submitting.{IsSubmitted};
-ghost use Rattle.serving.specs.Tapes.{Heard, heard};
-ghost use Rattle.serving.specs.Timings.{leader_in};
+ghost use Rattle.serving.specs.Moves.{IsLineTaken, IsStatus, Moves, owing};
+ghost use Rattle.serving.specs.Owing.{HasRoom};
+ghost use Rattle.serving.specs.Resting.{HasListened};
+ghost use Rattle.serving.specs.Serving.{Passes, Serves, ServesClients};
+ghost use Rattle.serving.specs.Tapes.{Heard, NothingHeard, heard, is_heard};
 ghost use Rattle.serving.specs.Turns.{IsPlain, first_position};
 
 use super::arrivals::input_of;
@@ -21,7 +19,6 @@ use crate::desk::{Came, Desk};
 use crate::fault::{TurnFault, refusal};
 use crate::waiting::{Due, Question};
 use clients::{ClientAnswer, ClientLine, Status, read_line};
-use events::WorldFault;
 use schedule::ReplayCause;
 use sessions::Submission;
 use stable::Stable;
@@ -30,7 +27,7 @@ use store::Query;
 
 impl<S: Stable + Drop> Server<S> {
     ghost use Rattle.life.specs.Seen.{life_of};
-    ghost use Rattle.serving.specs.Seen.{server_of};
+    ghost use Rattle.serving.specs.Seen.{process_of, server_of};
 
     // What clients did: whether they may have done more.
     pub(super) fn take_lines<D: Desk>(
@@ -39,9 +36,11 @@ impl<S: Stable + Drop> Server<S> {
         desk: &mut D,
     ) -> Result<bool, TurnFault>
         ensures serves { ServesClients S.Stable D.tape D.Tells (server_of self.old) desk.old (server_of self.new) desk.new }
-        ensures each { OnOk result (KeepsEachOver D.tape D.Tells self.old.waiting desk.old self.new.waiting desk.new) }
-        ensures stays { OnOk result (StaysUp (life_of self.old.life).node (life_of self.new.life).node) }
-        ensures knows { KnowsAsMuch self.old self.new }
+        ensures moves { (now : ℕ) → OnOk result (Passes D.tape D.Tells (λ said. Moves S.Stable now (process_of self.old) [] said (process_of self.new))
+            desk.old desk.new) }
+        ensures quiet { IfOk result (λ more. more ≡ false → Passes D.tape D.Tells (λ said. Contains said NothingHeard)
+            desk.old desk.new) }
+        ensures takes { OnOk result (Passes D.tape D.Tells HasListened desk.old desk.new) }
     {
         'lines: for _ in 0..MOST_IN_A_TURN {
             if !self.take_next_line(alloc, desk)? {
@@ -54,10 +53,12 @@ impl<S: Stable + Drop> Server<S> {
     // What a client did: whether any did anything.
     fn take_next_line<D: Desk>(&mut self, alloc: Global, desk: &mut D) -> Result<bool, TurnFault>
         ensures serves { ServesClients S.Stable D.tape D.Tells (server_of self.old) desk.old (server_of self.new) desk.new }
-        ensures each { OnOk result (KeepsEachOver D.tape D.Tells self.old.waiting desk.old self.new.waiting desk.new) }
-        ensures stays { OnOk result (StaysUp (life_of self.old.life).node (life_of self.new.life).node) }
-        ensures room { PassesOnly D.tape D.Tells (HasRoom self.old.waiting) desk.old desk.new }
-        ensures knows { KnowsAsMuch self.old self.new }
+        ensures moves { (now : ℕ) → OnOk result (Passes D.tape D.Tells (λ said. Moves S.Stable now (process_of self.old) [] said (process_of self.new))
+            desk.old desk.new) }
+        ensures quiet { IfOk result (λ more. more ≡ false → Passes D.tape D.Tells (λ said. Contains said NothingHeard)
+            desk.old desk.new) }
+        ensures takes { IfOk result (λ came. came ≡ true → Passes D.tape D.Tells (λ said. count_by is_heard said ≡ 1)
+            desk.old desk.new) }
     {
         let came = desk.next(alloc, &self.waiting)?;
         let Some(what) = came else {
@@ -70,9 +71,8 @@ impl<S: Stable + Drop> Server<S> {
     // A client did this.
     fn hear(&mut self, alloc: Global, what: Came) -> Result<(), TurnFault>
         ensures serves { Serves S.Stable (server_of self.old) [] (heard what ∷ []) (server_of self.new) }
-        ensures each { OnOk result (KeepsEach (heard what ∷ []) self.old.waiting self.new.waiting) }
-        ensures stays { OnOk result (StaysUp (life_of self.old.life).node (life_of self.new.life).node) }
-        ensures knows { KnowsAsMuch self.old self.new }
+        ensures moves { (now : ℕ) → HasRoom self.old.waiting (heard what)
+            → OnOk result (Moves S.Stable now (process_of self.old) [] (heard what ∷ []) (process_of self.new)) }
     {
         match what {
             Came::Line { connection, text } => self.take_line(alloc, connection, text.as_slice()),
@@ -86,9 +86,7 @@ impl<S: Stable + Drop> Server<S> {
     // The connection wrote this line.
     fn take_line(&mut self, alloc: Global, connection: u64, text: &[u8]) -> Result<(), TurnFault>
         ensures serves { Serves S.Stable (server_of self.old) [] (Heard connection text.now ∷ []) (server_of self.new) }
-        ensures each { OnOk result (KeepsEach (Heard connection text.now ∷ []) self.old.waiting self.new.waiting) }
-        ensures stays { OnOk result (StaysUp (life_of self.old.life).node (life_of self.new.life).node) }
-        ensures knows { KnowsAsMuch self.old self.new }
+        ensures taken { OnOk result (IsLineTaken S.Stable (process_of self.old) connection text.now (process_of self.new)) }
     {
         match read_line(alloc, text) {
             Ok(asked) => self.take_asked(alloc, connection, asked, text),
@@ -106,9 +104,7 @@ impl<S: Stable + Drop> Server<S> {
     ) -> Result<(), TurnFault>
         requires { IsClientLine text.now asked }
         ensures serves { Serves S.Stable (server_of self.old) [] (Heard connection text.now ∷ []) (server_of self.new) }
-        ensures each { OnOk result (KeepsEach (Heard connection text.now ∷ []) self.old.waiting self.new.waiting) }
-        ensures stays { OnOk result (StaysUp (life_of self.old.life).node (life_of self.new.life).node) }
-        ensures knows { KnowsAsMuch self.old self.new }
+        ensures taken { OnOk result (IsLineTaken S.Stable (process_of self.old) connection text.now (process_of self.new)) }
     {
         match asked {
             ClientLine::Submit(submission) => self.submit(alloc, connection, submission, text),
@@ -135,15 +131,16 @@ impl<S: Stable + Drop> Server<S> {
     ) -> Result<(), TurnFault>
         requires { IsClientFault text.now cause }
         ensures serves { Serves S.Stable (server_of self.old) [] (Heard connection text.now ∷ []) (server_of self.new) }
-        ensures each { OnOk result (KeepsEach (Heard connection text.now ∷ []) self.old.waiting self.new.waiting) }
-        ensures stays { OnOk result (StaysUp (life_of self.old.life).node (life_of self.new.life).node) }
-        ensures knows { KnowsAsMuch self.old self.new }
+        ensures taken { OnOk result (IsLineTaken S.Stable (process_of self.old) connection text.now (process_of self.new)) }
     {
-        if let ReplayCause::World(WorldFault::Memory) = cause {
-            return Err(TurnFault::Memory);
+        match cause {
+            ReplayCause::Schedule(found) => {
+                let code = found.code();
+                self.owe(alloc, connection, &ClientAnswer::Fault { code }, text)
+            }
+            // Only memory can be wanting.
+            ReplayCause::World(_) => Err(TurnFault::Memory),
         }
-        let code = cause.code();
-        self.owe(alloc, connection, &ClientAnswer::Fault { code }, text)
     }
 
     // The connection, which wrote this line, is told the answer at the end of the turn.
@@ -156,9 +153,8 @@ impl<S: Stable + Drop> Server<S> {
     ) -> Result<(), TurnFault>
         requires { IsPlain (λ n. n ≡ (life_of self.old.life).node) (Heard connection text.now ∷ []) connection (answer_line answer.now) }
         ensures serves { Serves S.Stable (server_of self.old) [] (Heard connection text.now ∷ []) (server_of self.new) }
-        ensures each { OnOk result (KeepsEach (Heard connection text.now ∷ []) self.old.waiting self.new.waiting) }
-        ensures stays { OnOk result (StaysUp (life_of self.old.life).node (life_of self.new.life).node) }
-        ensures knows { KnowsAsMuch self.old self.new }
+        ensures owes { OnOk result ((line : Vec ℕ) × (line.items ≡ answer_line answer.now)
+            × (process_of self.new ≡ record (process_of self.old) { waiting = owing connection line self.old.waiting })) }
     {
         let line = answer.spell(alloc)?;
         self.waiting.add_due(Due::Line { connection, line })?;
@@ -175,10 +171,7 @@ impl<S: Stable + Drop> Server<S> {
     ) -> Result<(), TurnFault>
         requires { IsClientLine text.now (client_line.Submit submission) }
         ensures serves { Serves S.Stable (server_of self.old) [] (Heard connection text.now ∷ []) (server_of self.new) }
-        ensures each { OnOk result (KeepsEach (Heard connection text.now ∷ []) self.old.waiting self.new.waiting) }
-        ensures stays { OnOk result (StaysUp (life_of self.old.life).node (life_of self.new.life).node) }
-        ensures outcome { OnOk result (IsSubmitted S.Stable (server_of self.old) connection submission (server_of self.new)) }
-        ensures knows { KnowsAsMuch self.old self.new }
+        ensures taken { OnOk result (IsLineTaken S.Stable (process_of self.old) connection text.now (process_of self.new)) }
     {
         let client = submission.client;
         let number = submission.number.value();
@@ -217,9 +210,7 @@ impl<S: Stable + Drop> Server<S> {
     ) -> Result<(), TurnFault>
         requires { IsClientLine text.now (client_line.Query query position) }
         ensures serves { Serves S.Stable (server_of self.old) [] (Heard connection text.now ∷ []) (server_of self.new) }
-        ensures each { OnOk result (KeepsEach (Heard connection text.now ∷ []) self.old.waiting self.new.waiting) }
-        ensures stays { OnOk result (StaysUp (life_of self.old.life).node (life_of self.new.life).node) }
-        ensures knows { KnowsAsMuch self.old self.new }
+        ensures taken { OnOk result (IsLineTaken S.Stable (process_of self.old) connection text.now (process_of self.new)) }
     {
         let from = least_position(position);
         self.waiting.add_due(Due::Answer(Question {
@@ -232,11 +223,7 @@ impl<S: Stable + Drop> Server<S> {
 
     // How far the node is.
     fn status(&self) -> Status
-        ensures position { IsPosition (life_of self.now.life).node result.position }
-        ensures node { result.node ≡ self.now.own }
-        ensures horizon { result.horizon ≡ self.now.timing.horizon }
-        ensures leader { result.leader ≡ leader_in self.now.timing }
-        ensures waiting { result.waiting ≡ min 255 (length self.now.requests) }
+        ensures { IsStatus (process_of self.now) result }
     {
         Status {
             node: self.own.value(),

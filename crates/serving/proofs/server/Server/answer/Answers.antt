@@ -10,12 +10,10 @@ use Rattle.serving.proofs.Answering.{clients_answering, serves_asked_only, serve
 use Rattle.serving.proofs.LettingOut.{serves_holding_back}
 use Rattle.serving.proofs.Lists.{last_is_pushed}
 use Rattle.serving.proofs.Passing.{clients_quiet}
-use Rattle.serving.proofs.KeepingEach.{keeps_held}
-use Rattle.serving.proofs.KeepingEachOver.{each_quiet, on_told}
 use Rattle.serving.proofs.Submitted.{asked_is_last}
-use Rattle.clients.specs.AnswerLines.{text_line}
 use Rattle.serving.proofs.Ripening.{node_asked, none_ripe_held, none_ripe_same}
 use Rattle.serving.proofs.Staying.{stays_on}
+use Rattle.serving.proofs.MovesOut.{never_before, on_answer}
 use Rattle.serving.proofs.server.Server.answer.Goals as goal
 
 pub returns-in_err-hold-clause-serves : goal.returns-in_err-hold-clause-serves
@@ -51,23 +49,6 @@ returns-clause-serves g c =
     clients_quiet g.S.Stable g.D.Desk.tape g.D.Desk.Tells _ _ c.args.desk.now
     (serves_silent g.S.Stable (server_of c.args.self.now) (life_of c.ask.new.self) (life_of c.hand_out-told.new.self) c.args.question c.ask.result c.ask.ensures c.hand_out-told.ensures.left)
 
-pub returns-then-position-question-clause-each : goal.returns-then-position-question-clause-each
-returns-then-position-question-clause-each g c =
-    each_quiet g.D.Desk.tape g.D.Desk.Tells (asking (server_of c.args.self.now) c.args.question).waiting c.hold.new.self c.args.desk.now
-    (keeps_held c.args.self.now.waiting c.hold.new.self c.args.question c.in_ok-hold.ensures.added)
-
-pub returns-in-Some-last-clause-each : goal.returns-in-Some-last-clause-each
-returns-in-Some-last-clause-each g c =
-    on_told g.D.Desk.tape g.D.Desk.Tells c.tell_answer.result c.args.self.now.waiting c.args.question
-    (text_line c.in-Some-last.answered.now.position c.in-Some-last.answered.now.text) c.args.desk.now c.tell_answer.new.desk c.tell_answer.ensures.once
-
-pub returns-clause-each : goal.returns-clause-each
-returns-clause-each g c =
-    absurd (asked_is_last g.S.Stable (life_of c.args.self.now.life) (life_of c.ask.new.self) c.args.question.query c.ask.result
-    c.deref.result.now c.ask.ensures
-    (subst (λ (o : Option NodeFault). IsRefusal c.ask.result (Ok o)) c.in_default.is c.in_ok-fault.ensures)
-    (c.deref.ensures.value ∙ ap (λ (t : ToldLists). t.answers) c.hand_out-told.ensures.told) (sym c.in-None.ensures.value))
-
 pub returns-in-Some-last-clause-node : goal.returns-in-Some-last-clause-node
 returns-in-Some-last-clause-node g c =
     stays_on c.tell_answer.result
@@ -102,3 +83,48 @@ returns-clause-ripe g c =
     (node_asked g.S.Stable (life_of c.args.self.now.life) (life_of c.ask.new.self) (life_of c.hand_out-told.new.self) c.args.question.query
     c.ask.result c.ask.ensures (subst (λ (o : Option NodeFault). IsRefusal c.ask.result (Ok o)) c.in_default.is c.in_ok-fault.ensures)
     c.hand_out-told.ensures.left) refl
+
+pub returns-then-position-question-clause-answers : goal.returns-then-position-question-clause-answers
+returns-then-position-question-clause-answers g c = λ position at behind.
+    absurd (never_before (life_of c.args.self.now.life).node c.position.result position c.args.question.from c.position.ensures at
+    c.if-position-question.true behind)
+
+pub returns-in-Some-last-clause-answers : goal.returns-in-Some-last-clause-answers
+returns-in-Some-last-clause-answers g c = λ position at behind.
+    on_answer g.S.Stable g.D.Desk.tape g.D.Desk.Tells c.tell_answer.result (life_of c.args.self.now.life) (life_of c.ask.new.self)
+    (life_of c.hand_out-told.new.self) c.args.question c.ask.result c.deref.result.now c.in-Some-last.answered.now c.args.desk.now
+    c.tell_answer.new.desk c.ask.ensures
+    (subst (λ (o : Option NodeFault). IsRefusal c.ask.result (Ok o)) c.in_default.is c.in_ok-fault.ensures) c.hand_out-told.ensures.left
+    (c.deref.ensures.value ∙ ap (λ (t : ToldLists). t.answers) c.hand_out-told.ensures.told)
+    (λ front x pushed. last_is_pushed c.deref.result.now front x c.in-Some-last.answered.now (sym c.in-Some-last.ensures.value) pushed)
+    c.tell_answer.ensures.once
+
+pub returns-clause-answers : goal.returns-clause-answers
+returns-clause-answers g c =
+    absurd (asked_is_last g.S.Stable (life_of c.args.self.now.life) (life_of c.ask.new.self) c.args.question.query c.ask.result
+    c.deref.result.now c.ask.ensures
+    (subst (λ (o : Option NodeFault). IsRefusal c.ask.result (Ok o)) c.in_default.is c.in_ok-fault.ensures)
+    (c.deref.ensures.value ∙ ap (λ (t : ToldLists). t.answers) c.hand_out-told.ensures.told) (sym c.in-None.ensures.value))
+
+pub returns-then-position-question-clause-holds_back : goal.returns-then-position-question-clause-holds_back
+returns-then-position-question-clause-holds_back g c = λ position at before. (refl, refl, c.in_ok-hold.ensures.added)
+
+pub returns-in_err-fault-clause-holds_back : goal.returns-in_err-fault-clause-holds_back
+returns-in_err-fault-clause-holds_back g c = λ position at before.
+    absurd (never_before (life_of c.args.self.now.life).node position c.position.result c.args.question.from at
+    c.position.ensures before c.if-position-question.false)
+
+pub returns-in-Some-clause-holds_back : goal.returns-in-Some-clause-holds_back
+returns-in-Some-clause-holds_back g c = λ position at before.
+    absurd (never_before (life_of c.args.self.now.life).node position c.position.result c.args.question.from at
+    c.position.ensures before c.if-position-question.false)
+
+pub returns-in-Some-last-clause-holds_back : goal.returns-in-Some-last-clause-holds_back
+returns-in-Some-last-clause-holds_back g c = λ position at before.
+    absurd (never_before (life_of c.args.self.now.life).node position c.position.result c.args.question.from at
+    c.position.ensures before c.if-position-question.false)
+
+pub returns-clause-holds_back : goal.returns-clause-holds_back
+returns-clause-holds_back g c = λ position at before.
+    absurd (never_before (life_of c.args.self.now.life).node position c.position.result c.args.question.from at
+    c.position.ensures before c.if-position-question.false)

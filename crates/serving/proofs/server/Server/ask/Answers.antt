@@ -1,12 +1,11 @@
-use Rattle.std.proofs.Common.{[], ◌∷◌, refl}
-use Rattle.serving.specs.Seen.{server_of}
+use Rattle.std.proofs.Common.{[], ◌∷◌, ap, refl}
+use Rattle.serving.specs.Seen.{process_of, server_of}
 use Rattle.serving.specs.Tapes.{Heard}
 use Rattle.serving.specs.declared.waiting.Due.TheVariants as due
+use Rattle.serving.specs.Waitings.{WaitingState}
 use Rattle.serving.proofs.Coming.{just_queried, serves_line_heard, serves_owing}
 use Rattle.serving.proofs.Holding.{holds_same}
-use Rattle.serving.proofs.KeepingEach.{keeps_question_due}
-use Rattle.serving.proofs.Staying.{stays_itself}
-use Rattle.life.specs.Seen.{life_of}
+use Rattle.serving.proofs.Hearing.{line_asked}
 use Rattle.serving.proofs.server.Server.ask.Goals as goal
 
 pub returns-in_err-add_due-clause-serves : goal.returns-in_err-add_due-clause-serves
@@ -22,11 +21,8 @@ returns-clause-serves g c =
     (record { connection = c.args.connection; query = c.args.query; from = c.least_position-from.result }) c.requires refl refl
     c.least_position-from.ensures) c.in_ok-add_due.ensures.added refl
 
-pub returns-clause-each : goal.returns-clause-each
-returns-clause-each g c =
-    keeps_question_due c.args.self.now.waiting c.add_due.new.self c.args.connection c.args.text.now
-    (record { connection = c.args.connection; query = c.args.query; from = c.least_position-from.result }) refl c.in_ok-add_due.ensures.added
-
-pub returns-clause-stays : goal.returns-clause-stays
-returns-clause-stays g c =
-    stays_itself g.S.Stable (life_of c.args.self.now.life).node
+pub returns-clause-taken : goal.returns-clause-taken
+returns-clause-taken g c =
+    line_asked g.S.Stable (process_of c.args.self.now) _ c.args.connection c.args.text.now c.args.query c.args.position
+    c.least_position-from.result c.requires c.least_position-from.ensures
+    (ap (λ (w : WaitingState). record (process_of c.args.self.now) { waiting = w }) c.in_ok-add_due.ensures.added)

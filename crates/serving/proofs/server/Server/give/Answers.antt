@@ -3,7 +3,6 @@ use Rattle.serving.specs.Seen.{server_of}
 use Rattle.serving.proofs.Coming.{serves_given}
 use Rattle.life.specs.Seen.{life_of}
 use Rattle.serving.proofs.Checkpointing.{was_given}
-use Rattle.serving.proofs.Staying.{stays_taking}
 use Rattle.serving.proofs.server.Server.give.Goals as goal
 
 pub returns-in_err-refusal-clause-serves : goal.returns-in_err-refusal-clause-serves
@@ -13,11 +12,6 @@ returns-in_err-refusal-clause-serves g c =
 pub returns-clause-serves : goal.returns-clause-serves
 returns-clause-serves g c =
     serves_given g.S.Stable (server_of c.args.self.now) _ c.args.input c.take.result c.requires c.take.ensures refl refl
-
-pub returns-clause-stays : goal.returns-clause-stays
-returns-clause-stays g c =
-    stays_taking g.S.Stable (life_of c.args.self.now.life) (life_of c.take.new.self) c.args.input c.take.result c.in_ok-refusal.field-0
-    c.take.ensures c.in_ok-refusal.ensures
 
 pub returns-clause-gives : goal.returns-clause-gives
 returns-clause-gives g c =

@@ -1,12 +1,14 @@
-use Rattle.std.proofs.Common.{◌≡◌, ℕ, List, refl, sym, subst, ◌∙◌}
+use Rattle.std.proofs.Common.{◌≡◌, ℕ, List, refl, sym, ap, subst, ◌∙◌}
 use Rattle.serving.specs.Outgoing.{IsRightlySent}
 use Rattle.serving.specs.Requesting.{HandsOnFirst, NoneIsDue, RequestState}
-use Rattle.serving.specs.Seen.{server_of}
+use Rattle.life.specs.Seen.{life_of}
+use Rattle.serving.specs.Resting.{IsFull}
+use Rattle.serving.specs.Seen.{process_of, server_of}
 use Rattle.serving.specs.Timings.{leader_in}
 use Rattle.serving.proofs.Passing.{nodes_none, nodes_then, only_none}
 use Rattle.serving.proofs.HandingOn.{rightly_from}
 use Rattle.serving.proofs.Requested.{none_due_first, none_due_more}
-use Rattle.serving.proofs.Learning.{as_much, learns_nothing, learns_then}
+use Rattle.serving.proofs.Moving.{nodes_moves_none, nodes_moves_then}
 use Rattle.serving.proofs.server.Server.hand_on.Goals as goal
 
 pub packets-init : goal.packets-init
@@ -20,7 +22,7 @@ packets-init g c = (
   only_none g.N.Network.tape g.N.Network.Tells (IsRightlySent (leader_in c.args.self.now.timing) c.args.self.now.own) c.args.network.now,
   refl,
   none_due_first c.args.now c.args.self.now.requests,
-  learns_nothing g.N.Network.tape g.N.Network.Tells c.args.self.now c.args.self.now c.args.network.now (as_much c.args.self.now),
+  λ held none_at_full. nodes_moves_none g.S.Stable c.args.now g.N.Network.tape g.N.Network.Tells (process_of c.args.self.now) c.args.network.now,
 )
 
 pub returns-in_err-hand_on_next-clause-serves : goal.returns-in_err-hand_on_next-clause-serves
@@ -48,7 +50,10 @@ packets-preserved g c =
           _ _ _ c.packets.invariant.3 c.packets.invariant.4 c.packets.invariant.6 c.in_ok-hand_on_next.ensures.sends,
       c.hand_on_next.ensures.keeps ∙ c.packets.invariant.7,
       none_due_more c.args.now handed.0 _ _ handed.1 c.packets.counter c.packets.invariant.8,
-      learns_then g.N.Network.tape g.N.Network.Tells _ _ _ _ _ _ c.packets.invariant.9 c.in_ok-hand_on_next.ensures.learns,
+      λ held none_at_full. nodes_moves_then g.S.Stable c.args.now g.N.Network.tape g.N.Network.Tells (process_of c.args.self.now) (process_of c.packets.self)
+          (process_of c.hand_on_next.new.self) c.args.network.now c.packets.network c.hand_on_next.new.network (c.packets.invariant.9 held none_at_full)
+          (c.in_ok-hand_on_next.ensures.moves (ap (λ l. (life_of l).held) c.packets.invariant.2 ∙ held)
+          (λ full. c.packets.invariant.5 (none_at_full (subst (λ l. IsFull (life_of l).node) c.packets.invariant.2 full)))),
     )
 
 pub returns-then-not-branch-clause-keeps : goal.returns-then-not-branch-clause-keeps
@@ -57,12 +62,14 @@ returns-then-not-branch-clause-keeps g c = c.hand_on_next.ensures.keeps ∙ c.pa
 pub returns-in_err-hand_on_next-clause-keeps : goal.returns-in_err-hand_on_next-clause-keeps
 returns-in_err-hand_on_next-clause-keeps g c = c.hand_on_next.ensures.keeps ∙ c.packets.invariant.7
 
-pub returns-then-not-branch-clause-learns : goal.returns-then-not-branch-clause-learns
-returns-then-not-branch-clause-learns g c =
-    learns_then g.N.Network.tape g.N.Network.Tells _ _ _ _ _ _ c.packets.invariant.9 c.in_ok-hand_on_next.ensures.learns
-
 pub returns-then-not-branch-clause-all : goal.returns-then-not-branch-clause-all
 returns-then-not-branch-clause-all g c =
     let none : (c.hand_on_next.new.self.requests ≡ c.packets.self.requests) × NoneIsDue c.args.now c.packets.self.requests =
     rw c.if-not-branch.true at c.in_ok-hand_on_next.ensures.first in
     subst (λ (rs : List RequestState). NoneIsDue c.args.now rs) (sym none.0) none.1
+
+pub returns-then-not-branch-clause-moves : goal.returns-then-not-branch-clause-moves
+returns-then-not-branch-clause-moves g c = λ held none_at_full. nodes_moves_then g.S.Stable c.args.now g.N.Network.tape g.N.Network.Tells (process_of c.args.self.now) (process_of c.packets.self)
+    (process_of c.hand_on_next.new.self) c.args.network.now c.packets.network c.hand_on_next.new.network (c.packets.invariant.9 held none_at_full)
+    (c.in_ok-hand_on_next.ensures.moves (ap (λ l. (life_of l).held) c.packets.invariant.2 ∙ held)
+    (λ full. c.packets.invariant.5 (none_at_full (subst (λ l. IsFull (life_of l).node) c.packets.invariant.2 full))))

@@ -1,4 +1,4 @@
-use Rattle.serving.specs.Seen.{server_of}
+use Rattle.serving.specs.Seen.{process_of, server_of}
 use Rattle.serving.proofs.Answering.{nodes_handing_on, nodes_still}
 use Rattle.serving.specs.Outgoing.{IsPacketOf, IsRightlySent}
 use Rattle.serving.specs.Timings.{leader_in}
@@ -6,10 +6,10 @@ use Rattle.serving.proofs.HandingOn.{packet_right}
 use Rattle.serving.proofs.Passing.{only_none, only_weaker}
 use Rattle.serving.proofs.Requested.{unmarked_same}
 use Rattle.serving.proofs.Ripening.{none_handed_on}
-use Rattle.serving.specs.Requesting.{unmarked}
-use Rattle.std.proofs.Common.{ap}
-use Rattle.serving.proofs.Learning.{learns_nothing, learns_requests}
-use Rattle.std.proofs.Common.{refl}
+use Rattle.serving.specs.Requesting.{RequestState, as_new_all}
+use Rattle.std.proofs.Common.{ap, List}
+use Rattle.serving.proofs.Moving.{moves_same, nodes_moves_quiet}
+use Rattle.serving.proofs.MovesOut.{moves_handing_on}
 use Rattle.serving.proofs.server.Server.hand_on_next.Goals as goal
 
 pub returns-in_default-clause-serves : goal.returns-in_default-clause-serves
@@ -44,7 +44,7 @@ pub returns-clause-none : goal.returns-clause-none
 returns-clause-none g c = none_handed_on c.args.now c.in-Some.place _ _ c.in-Some.ensures.handed_on
 
 pub returns-in_default-clause-keeps : goal.returns-in_default-clause-keeps
-returns-in_default-clause-keeps g c = ap unmarked c.in_default.ensures.unchanged
+returns-in_default-clause-keeps g c = ap as_new_all c.in_default.ensures.unchanged
 
 pub returns-in_err-send_packet-clause-keeps : goal.returns-in_err-send_packet-clause-keeps
 returns-in_err-send_packet-clause-keeps g c = unmarked_same c.args.now c.in-Some.place _ _ c.in-Some.ensures.handed_on
@@ -58,13 +58,15 @@ returns-in_default-clause-first g c = (c.in_default.ensures.unchanged, c.in_defa
 pub returns-clause-first : goal.returns-clause-first
 returns-clause-first g c = (c.in-Some.place, c.in-Some.ensures.handed_on)
 
-pub returns-in_default-clause-learns : goal.returns-in_default-clause-learns
-returns-in_default-clause-learns g c =
-    learns_nothing g.N.Network.tape g.N.Network.Tells c.args.self.now (record c.args.self.now { requests = c.next_due.new.self })
-    c.args.network.now (refl, refl, refl)
+pub returns-in_default-clause-moves : goal.returns-in_default-clause-moves
+returns-in_default-clause-moves g c = λ held none_at_full.
+    let after = record (process_of c.args.self.now) { requests = c.next_due.new.self } in
+    nodes_moves_quiet g.S.Stable c.args.now g.N.Network.tape g.N.Network.Tells (process_of c.args.self.now) after c.args.network.now
+    (moves_same g.S.Stable c.args.now (process_of c.args.self.now) after
+    (ap (λ (rs : List RequestState). record (process_of c.args.self.now) { requests = rs }) c.in_default.ensures.unchanged))
 
-pub returns-clause-learns : goal.returns-clause-learns
-returns-clause-learns g c =
-    learns_requests g.N.Network.tape g.N.Network.Tells c.args.self.now (record c.args.self.now { requests = c.next_due.new.self })
-    c.args.network.now c.send_packet.new.network (leader_in c.args.self.now.timing) c.args.self.now.own c.packet.result.now
-    (refl, refl, refl) c.packet.ensures.marked c.send_packet.ensures.only
+pub returns-clause-moves : goal.returns-clause-moves
+returns-clause-moves g c = λ held none_at_full.
+    moves_handing_on g.S.Stable c.args.now g.N.Network.tape g.N.Network.Tells (process_of c.args.self.now) c.next_due.new.self c.in-Some.place
+    c.packet.result.now c.args.network.now c.send_packet.new.network c.in-Some.ensures.handed_on c.packet.ensures.packet
+    c.packet.ensures.marked held none_at_full c.in_ok-send_packet.ensures.all

@@ -1,27 +1,25 @@
-use Rattle.std.proofs.Common.{[]}
+use Rattle.std.proofs.Common.{[], ap, ◌∙◌}
 use Rattle.serving.proofs.Leading.{serves_then}
-use Rattle.serving.proofs.Staying.{stays_then_on}
-use Rattle.serving.proofs.Learning.{behind_position}
-use Rattle.std.proofs.Common.{◌∙◌}
+use Rattle.life.specs.Seen.{life_of}
+use Rattle.serving.specs.Processes.{ProcessState}
+use Rattle.serving.specs.Seen.{process_of}
+use Rattle.serving.proofs.Keeping.{keeps_time_so}
+use Rattle.serving.proofs.Packets.{on_ok_so}
 use Rattle.serving.proofs.server.Server.keep_time.Goals as goal
 
 pub returns-clause-serves : goal.returns-clause-serves
 returns-clause-serves g c = serves_then g.S.Stable _ _ _ [] [] [] [] c.campaign_if_due.ensures.serves c.tick_if_due.ensures.serves
 
-pub returns-clause-stays : goal.returns-clause-stays
-returns-clause-stays g c =
-    stays_then_on g.S.Stable c.tick_if_due.result _ _ _ c.in_ok-campaign_if_due.ensures.stays c.tick_if_due.ensures.stays
+pub returns-clause-keeps : goal.returns-clause-keeps
+returns-clause-keeps g c =
+    on_ok_so c.tick_if_due.result
+    (keeps_time_so g.S.Stable c.args.now (process_of c.args.self.now) (process_of c.campaign_if_due.new.self)
+    (process_of c.tick_if_due.new.self) c.position-position.result c.is_asked-is_asked.result c.see_position.new.self
+    c.position-position.ensures c.is_asked-is_asked.ensures c.see_position.ensures c.in_ok-campaign_if_due.ensures.campaigns)
+    c.tick_if_due.ensures.ticks
 
-pub returns-in_err-campaign_if_due-clause-knows : goal.returns-in_err-campaign_if_due-clause-knows
-returns-in_err-campaign_if_due-clause-knows g c =
-    behind_position c.args.self.now c.campaign_if_due.new.self c.see_position.new.self c.position-position.result c.is_asked-is_asked.result
-    c.args.now c.see_position.ensures c.campaign_if_due.ensures.knows
-
-pub returns-clause-knows : goal.returns-clause-knows
-returns-clause-knows g c =
-    behind_position c.args.self.now c.tick_if_due.new.self c.see_position.new.self c.position-position.result c.is_asked-is_asked.result
-    c.args.now c.see_position.ensures (
-      c.tick_if_due.ensures.knows.0 ∙ c.campaign_if_due.ensures.knows.0,
-      c.tick_if_due.ensures.knows.1 ∙ c.campaign_if_due.ensures.knows.1,
-      c.tick_if_due.ensures.knows.2 ∙ c.campaign_if_due.ensures.knows.2,
-    )
+pub returns-clause-others : goal.returns-clause-others
+returns-clause-others g c =
+    c.tick_if_due.ensures.others
+    ∙ ap (λ (p : ProcessState _). record p { life = life_of c.tick_if_due.new.self.life; timing = c.tick_if_due.new.self.timing })
+    c.campaign_if_due.ensures.others

@@ -1,18 +1,20 @@
 use Rattle.std.proofs.Common.{List, ap, refl, ◌∙◌, subst}
 use Rattle.life.specs.Seen.{life_of}
-use Rattle.serving.specs.Seen.{server_of}
+use Rattle.serving.specs.Seen.{process_of, server_of}
 use Rattle.life.specs.Telling.{ToldLists}
 use Rattle.serving.proofs.Answering.{over_letting_out}
 use Rattle.serving.proofs.Holding.{less_itself}
 use Rattle.serving.proofs.Passing.{only_none}
 use Rattle.world_model.specs.declared.lists.Replied.{Replied}
 use Rattle.wire.specs.declared.frames.envelope.Envelope.{Envelope}
-use Rattle.serving.specs.Outgoing.{AreFramesOf, IsFrameOf}
-use Rattle.serving.specs.Owing.{AllSettled, KeepsEachOver}
+use Rattle.serving.specs.Outgoing.{IsFrameOf}
 use Rattle.serving.specs.Requesting.{unreplied}
 use Rattle.serving.specs.Serving.{Passes, PassesOnly}
 use Rattle.serving.specs.Waitings.{WaitingState}
-use Rattle.serving.proofs.Learning.{learns_same_from, learns_still}
+use Rattle.serving.specs.Moves.{AreRepliesTold}
+use Rattle.serving.specs.Processes.{ProcessState}
+use Rattle.serving.specs.Timings.{all_own_seen}
+use Rattle.serving.proofs.MovesOut.{moves_letting_out, process_same}
 use Rattle.serving.proofs.server.Server.let_out.Goals as goal
 
 pub returns-in_err-send_frames-clause-serves : goal.returns-in_err-send_frames-clause-serves
@@ -36,16 +38,6 @@ returns-clause-serves g c =
     (c.as_slice.ensures.value ∙ ap (λ (t : ToldLists). t.frames) c.hand_out-frames.ensures.told) (c.as_slice-2.ensures.value ∙ ap (λ (t : ToldLists). t.replies) c.hand_out-frames.ensures.told)
     c.send_frames.ensures.sends c.tell_replies.ensures.tells
 
-pub returns-clause-each : goal.returns-clause-each
-returns-clause-each g c =
-    subst (λ (w : WaitingState). KeepsEachOver g.D.Desk.tape g.D.Desk.Tells w c.args.desk.now c.tell_replies.new.self.waiting c.tell_replies.new.desk)
-    (ap (λ s. s.waiting) c.send_frames.ensures.same) c.in_ok-tell_replies.ensures.each
-
-pub returns-clause-settled : goal.returns-clause-settled
-returns-clause-settled g c =
-    subst (λ (rs : List Replied). AllSettled rs c.tell_replies.new.self.waiting.claims)
-    (c.as_slice-2.ensures.value ∙ ap (λ (t : ToldLists). t.replies) c.hand_out-frames.ensures.told) c.in_ok-tell_replies.ensures.settled
-
 pub returns-clause-node : goal.returns-clause-node
 returns-clause-node g c =
     ap (λ l. (life_of l).node) c.tell_replies.ensures.life ∙ ap (λ s. s.life.node) c.send_frames.ensures.same
@@ -56,11 +48,6 @@ returns-clause-frames g c =
     subst (λ (fs : List Envelope). PassesOnly g.N.Network.tape g.N.Network.Tells (IsFrameOf fs) c.args.network.now c.send_frames.new.network)
     (c.as_slice.ensures.value ∙ ap (λ (t : ToldLists). t.frames) c.hand_out-frames.ensures.told) c.send_frames.ensures.sends
 
-pub returns-clause-all : goal.returns-clause-all
-returns-clause-all g c =
-    subst (λ (fs : List Envelope). Passes g.N.Network.tape g.N.Network.Tells (AreFramesOf fs) c.args.network.now c.send_frames.new.network)
-    (c.as_slice.ensures.value ∙ ap (λ (t : ToldLists). t.frames) c.hand_out-frames.ensures.told) c.in_ok-send_frames.ensures.all
-
 pub returns-clause-requests : goal.returns-clause-requests
 returns-clause-requests g c =
     c.in_ok-tell_replies.ensures.requests
@@ -68,9 +55,37 @@ returns-clause-requests g c =
     (c.as_slice-2.ensures.value ∙ ap (λ (t : ToldLists). t.replies) c.hand_out-frames.ensures.told)
     ∙ ap (unreplied (life_of c.args.self.now.life).held.replies) (ap (λ s. s.requests) c.send_frames.ensures.same)
 
-pub returns-clause-learns : goal.returns-clause-learns
-returns-clause-learns g c =
-    learns_still g.N.Network.tape g.N.Network.Tells c.args.self.now c.send_frames.new.self c.tell_replies.new.self _ _
-    (learns_same_from g.N.Network.tape g.N.Network.Tells c.args.self.now (record c.args.self.now { life = c.hand_out-frames.new.self })
-    c.send_frames.new.self _ _ refl refl refl c.in_ok-send_frames.ensures.learns)
-    c.tell_replies.ensures.knows
+pub returns-clause-moves : goal.returns-clause-moves
+returns-clause-moves g c =
+    let out = c.send_frames.new.self in
+    let told = c.tell_replies.new.self in
+    let others = c.tell_replies.ensures.others in
+    moves_letting_out g.S.Stable c.args.now g.N.Network.tape g.N.Network.Tells g.D.Desk.tape g.D.Desk.Tells (process_of c.args.self.now)
+    (process_of told) c.as_slice.result.now c.as_slice-2.result.now c.args.network.now c.send_frames.new.network c.args.desk.now
+    c.tell_replies.new.desk (c.as_slice.ensures.value ∙ ap (λ (t : ToldLists). t.frames) c.hand_out-frames.ensures.told)
+    (c.as_slice-2.ensures.value ∙ ap (λ (t : ToldLists). t.replies) c.hand_out-frames.ensures.told) c.in_ok-send_frames.ensures.all
+    (subst (λ (w : WaitingState). Passes g.D.Desk.tape g.D.Desk.Tells (λ said.
+    AreRepliesTold w.claims c.as_slice-2.result.now said told.waiting.claims) c.args.desk.now c.tell_replies.new.desk)
+    (ap (λ s. s.waiting) c.send_frames.ensures.same) c.in_ok-tell_replies.ensures.replies)
+    (process_same (process_of told) _
+    (ap (λ (p : ProcessState _). p.own) others ∙ c.send_frames.ensures.node.0)
+    (ap (λ (p : ProcessState _). p.nodes) others ∙ c.send_frames.ensures.node.1)
+    (ap (λ (p : ProcessState _). p.life) others ∙ ap (λ s. s.life) c.send_frames.ensures.same ∙ c.hand_out-frames.ensures.left)
+    (ap (λ (p : ProcessState _). p.waiting) others
+    ∙ ap (λ (w : WaitingState). record w { claims = told.waiting.claims }) (ap (λ s. s.waiting) c.send_frames.ensures.same))
+    (c.in_ok-tell_replies.ensures.requests ∙ ap (λ (rs : List Replied). unreplied rs out.requests)
+    (c.as_slice-2.ensures.value ∙ ap (λ (t : ToldLists). t.replies) c.hand_out-frames.ensures.told)
+    ∙ ap (unreplied (life_of c.args.self.now.life).held.replies) (ap (λ s. s.requests) c.send_frames.ensures.same))
+    (ap (λ (p : ProcessState _). p.timing) others ∙ c.in_ok-send_frames.ensures.seen
+    ∙ ap (λ (fs : List Envelope). all_own_seen fs c.args.now c.args.self.now.timing)
+    (c.as_slice.ensures.value ∙ ap (λ (t : ToldLists). t.frames) c.hand_out-frames.ensures.told)))
+
+pub returns-clause-held : goal.returns-clause-held
+returns-clause-held g c =
+    ap (λ l. (life_of l).held) c.tell_replies.ensures.life ∙ ap (λ s. s.life.held) c.send_frames.ensures.same
+    ∙ ap (λ l. l.held) c.hand_out-frames.ensures.left
+
+pub returns-clause-own : goal.returns-clause-own
+returns-clause-own g c =
+    ap (λ l. (life_of l).own) c.tell_replies.ensures.life ∙ ap (λ s. s.life.own) c.send_frames.ensures.same
+    ∙ ap (λ l. l.own) c.hand_out-frames.ensures.left

@@ -1,13 +1,11 @@
-use Rattle.std.proofs.Common.{ℕ, List, [], ◌∷◌, refl, subst, sym}
-use Rattle.serving.specs.Seen.{server_of}
+use Rattle.std.proofs.Common.{ℕ, List, [], ◌∷◌, ap, refl, subst, sym}
+use Rattle.serving.specs.Seen.{process_of, server_of}
+use Rattle.serving.specs.Waitings.{WaitingState}
 use Rattle.serving.specs.Tapes.{Heard}
 use Rattle.serving.specs.Turns.{IsPlain}
 use Rattle.serving.specs.declared.waiting.Due.TheVariants as due
 use Rattle.serving.proofs.Coming.{serves_line_heard, serves_owing}
 use Rattle.serving.proofs.Holding.{IsNow, holds_same}
-use Rattle.serving.proofs.KeepingEach.{keeps_line_due}
-use Rattle.serving.proofs.Staying.{stays_itself}
-use Rattle.life.specs.Seen.{life_of}
 use Rattle.serving.proofs.server.Server.owe.Goals as goal
 
 pub returns-in_err-line-clause-serves : goal.returns-in_err-line-clause-serves
@@ -25,10 +23,9 @@ returns-clause-serves g c =
     (subst (λ (b : List ℕ). IsPlain (IsNow (server_of c.args.self.now)) (Heard c.args.connection c.args.text.now ∷ []) c.args.connection b) (sym c.in_ok-line.ensures) c.requires)
     c.in_ok-add_due.ensures.added refl
 
-pub returns-clause-each : goal.returns-clause-each
-returns-clause-each g c =
-    keeps_line_due c.args.self.now.waiting c.add_due.new.self c.args.connection c.args.text.now c.in_ok-line.line c.in_ok-add_due.ensures.added
-
-pub returns-clause-stays : goal.returns-clause-stays
-returns-clause-stays g c =
-    stays_itself g.S.Stable (life_of c.args.self.now.life).node
+pub returns-clause-owes : goal.returns-clause-owes
+returns-clause-owes g c = (
+  c.in_ok-line.line,
+  c.in_ok-line.ensures,
+  ap (λ (w : WaitingState). record (process_of c.args.self.now) { waiting = w }) c.in_ok-add_due.ensures.added,
+)

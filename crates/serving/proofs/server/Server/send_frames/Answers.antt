@@ -1,14 +1,9 @@
-use Rattle.std.proofs.Common.{◌≡◌, List, [], ◌∷◌, take, refl, sym, subst, ◌∙◌}
-use Rattle.std.proofs.lemmas.List.{take_all}
-use Rattle.wire.specs.declared.frames.envelope.Envelope.{Envelope}
-use Rattle.serving.specs.Serving.{Passes}
-use Rattle.serving.specs.Timings.{all_own_seen}
+use Rattle.std.proofs.Common.{[], ◌∷◌, refl, sym, ◌∙◌}
 use Rattle.serving.specs.Outgoing.{AreFramesOf, IsFrameOf}
 use Rattle.serving.specs.Outgoing.AreFramesOf.{none}
 use Rattle.serving.proofs.Sending.{all_none, frames_more, own_seen_more}
 use Rattle.serving.proofs.Lists.{frame_of_one}
 use Rattle.serving.proofs.Passing.{only_none, only_then, only_weaker}
-use Rattle.serving.proofs.Learning.{learns_frames}
 use Rattle.serving.proofs.server.Server.send_frames.Goals as goal
 
 pub frames-init : goal.frames-init
@@ -48,13 +43,3 @@ frames-preserved g c = (
   c.note_sent.ensures.node.0 ∙ c.frames.invariant.4,
   c.note_sent.ensures.node.1 ∙ c.frames.invariant.5,
 )
-
-pub returns-clause-learns : goal.returns-clause-learns
-returns-clause-learns g c =
-    let whole : take c.frames.frame-index c.args.frames.now ≡ c.args.frames.now =
-    take_all c.frames.frame-index c.args.frames.now c.frames-test.false in
-    learns_frames g.N.Network.tape g.N.Network.Tells c.args.self.now c.frames.self c.args.network.now c.frames.network c.args.now
-    c.args.frames.now c.frames.invariant.4 c.frames.invariant.5
-    (subst (λ (es : List Envelope). c.frames.self.timing ≡ all_own_seen es c.args.now c.args.self.now.timing) whole c.frames.invariant.3)
-    (subst (λ (es : List Envelope). Passes g.N.Network.tape g.N.Network.Tells (AreFramesOf es) c.args.network.now c.frames.network) whole
-    c.frames.invariant.2)

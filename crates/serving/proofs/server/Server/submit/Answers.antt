@@ -1,5 +1,4 @@
 use Rattle.std.proofs.Common.{ℕ, [], ◌∷◌, ap, refl, subst, ◌∙◌, Ok, Option}
-use Rattle.serving.specs.Seen.{server_of}
 use Rattle.life.specs.Seen.{life_of}
 use Rattle.life.specs.Lives.{Does}
 use Rattle.node_model.specs.declared.input.Input.{Input}
@@ -7,17 +6,17 @@ use Rattle.world_model.specs.Lives.{Took}
 use Rattle.clients.specs.AnswerLines.{answer_line}
 use Rattle.clients.specs.declared.answer.ClientAnswer.TheVariants as answer
 use Rattle.clients.specs.declared.line.ClientLine.TheVariants as client_line
-use Rattle.serving.specs.Requesting.{fresh_request, is_known}
+use Rattle.node_model.specs.declared.fault.NodeFault.{NodeFault}
+use Rattle.serving.specs.Seen.{process_of, server_of}
 use Rattle.serving.specs.Tapes.{Heard}
 use Rattle.serving.specs.Turns.{MayBeHandedOn, refused}
 use Rattle.serving.specs.declared.waiting.Due.TheVariants as due
+use Rattle.serving.specs.Refusals.{IsRefusal}
+use Rattle.serving.specs.Waitings.{WaitingState}
 use Rattle.serving.proofs.Coming.{just_asked, just_handed_on, just_written, requests_added, serves_submitting}
 use Rattle.serving.proofs.Holding.{holds_claim, holds_due, holds_same}
-use Rattle.serving.proofs.KeepingEach.{keeps_claim, keeps_line_due}
-use Rattle.serving.proofs.Submitted.{refuses_so, was_taken, was_turned_away}
-use Rattle.node_model.specs.declared.fault.NodeFault.{NodeFault}
-use Rattle.serving.specs.Refusals.{IsRefusal}
-use Rattle.serving.proofs.Staying.{stays_taking}
+use Rattle.serving.proofs.Submitted.{refuses_so}
+use Rattle.serving.proofs.Hearing.{line_refused, line_submitted}
 use Rattle.serving.proofs.server.Server.submit.Goals as goal
 
 pub returns-in_err-fault-clause-serves : goal.returns-in_err-fault-clause-serves
@@ -63,9 +62,10 @@ returns-in_err-add-in-None-clause-serves g c =
     (subst (λ (i : Input). Does g.S.Stable (life_of c.args.self.now.life) (Took i) c.take-outcome.result (life_of c.take-outcome.new.self)) c.input_of.ensures c.take-outcome.ensures)
     (holds_claim (Heard c.args.connection c.args.text.now ∷ []) (server_of c.args.self.now) _ (record { connection = c.args.connection; client = c.args.submission.client; number = c.value-number.result })
     (just_asked c.args.connection c.args.text.now c.args.submission (record { connection = c.args.connection; client = c.args.submission.client; number = c.value-number.result }) c.requires refl refl c.value-number.ensures.value) c.in_ok-add_claim-in-None.ensures.added
-    (requests_added (is_known c.args.submission.client c.value-number.result c.args.self.now.requests) c.add.result (MayBeHandedOn (Heard c.args.connection c.args.text.now ∷ []))
-    c.args.self.now.requests c.add.new.self (fresh_request c.args.submission.client c.value-number.result c.args.text.now)
-    (just_handed_on c.args.connection c.args.text.now c.args.submission c.args.submission.client c.value-number.result c.requires) c.add.ensures.again c.add.ensures.goes_last c.add.ensures.err))
+    (requests_added c.add.result (MayBeHandedOn (Heard c.args.connection c.args.text.now ∷ [])) c.args.submission.client
+    c.value-number.result c.args.text.now c.args.self.now.requests c.add.new.self
+    (just_handed_on c.args.connection c.args.text.now c.args.submission c.args.submission.client c.value-number.result c.requires)
+    c.add.ensures.added c.add.ensures.err))
 
 pub returns-in_ok-add-in-None-clause-serves : goal.returns-in_ok-add-in-None-clause-serves
 returns-in_ok-add-in-None-clause-serves g c =
@@ -73,45 +73,31 @@ returns-in_ok-add-in-None-clause-serves g c =
     (subst (λ (i : Input). Does g.S.Stable (life_of c.args.self.now.life) (Took i) c.take-outcome.result (life_of c.take-outcome.new.self)) c.input_of.ensures c.take-outcome.ensures)
     (holds_claim (Heard c.args.connection c.args.text.now ∷ []) (server_of c.args.self.now) _ (record { connection = c.args.connection; client = c.args.submission.client; number = c.value-number.result })
     (just_asked c.args.connection c.args.text.now c.args.submission (record { connection = c.args.connection; client = c.args.submission.client; number = c.value-number.result }) c.requires refl refl c.value-number.ensures.value) c.in_ok-add_claim-in-None.ensures.added
-    (requests_added (is_known c.args.submission.client c.value-number.result c.args.self.now.requests) c.add.result (MayBeHandedOn (Heard c.args.connection c.args.text.now ∷ []))
-    c.args.self.now.requests c.add.new.self (fresh_request c.args.submission.client c.value-number.result c.args.text.now)
-    (just_handed_on c.args.connection c.args.text.now c.args.submission c.args.submission.client c.value-number.result c.requires) c.add.ensures.again c.add.ensures.goes_last c.add.ensures.err))
+    (requests_added c.add.result (MayBeHandedOn (Heard c.args.connection c.args.text.now ∷ [])) c.args.submission.client
+    c.value-number.result c.args.text.now c.args.self.now.requests c.add.new.self
+    (just_handed_on c.args.connection c.args.text.now c.args.submission c.args.submission.client c.value-number.result c.requires)
+    c.add.ensures.added c.add.ensures.err))
 
-pub returns-in_ok-add_due-in-Some-clause-each : goal.returns-in_ok-add_due-in-Some-clause-each
-returns-in_ok-add_due-in-Some-clause-each g c =
-    keeps_line_due c.args.self.now.waiting c.add_due.new.self c.args.connection c.args.text.now c.in_ok-line-in-Some.line
-    c.in_ok-add_due-in-Some.ensures.added
-
-pub returns-in_ok-add-in-None-clause-each : goal.returns-in_ok-add-in-None-clause-each
-returns-in_ok-add-in-None-clause-each g c =
-    keeps_claim c.args.self.now.waiting c.add_claim.new.self c.args.connection c.args.text.now
-    (record { connection = c.args.connection; client = c.args.submission.client; number = c.value-number.result }) refl
-    c.in_ok-add_claim-in-None.ensures.added
-
-pub returns-in_ok-add_due-in-Some-clause-outcome : goal.returns-in_ok-add_due-in-Some-clause-outcome
-returns-in_ok-add_due-in-Some-clause-outcome g c =
-    was_turned_away g.S.Stable (server_of c.args.self.now) _ c.args.connection c.args.submission c.in-Some.fault c.take-outcome.result
+pub returns-in_ok-add_due-in-Some-clause-taken : goal.returns-in_ok-add_due-in-Some-clause-taken
+returns-in_ok-add_due-in-Some-clause-taken g c =
+    line_refused g.S.Stable (process_of c.args.self.now) _ c.args.connection c.args.text.now c.args.submission c.in-Some.fault
+    c.take-outcome.result c.in_ok-line-in-Some.line c.requires
     (subst (λ (i : Input). Does g.S.Stable (life_of c.args.self.now.life) (Took i) c.take-outcome.result (life_of c.take-outcome.new.self)) c.input_of.ensures c.take-outcome.ensures)
     (subst (λ (o : Option NodeFault). IsRefusal c.take-outcome.result (Ok o)) c.in-Some.is c.in_ok-fault.ensures)
-    c.in_ok-line-in-Some.line
     (c.in_ok-line-in-Some.ensures ∙ ap (λ (n : ℕ). answer_line (answer.Refused c.args.submission.client n c.code-code.result)) c.value-number.ensures.value
     ∙ ap (λ (k : ℕ). answer_line (answer.Refused c.args.submission.client c.args.submission.number k)) c.code-code.ensures)
-    c.in_ok-add_due-in-Some.ensures.added
+    (ap (λ (w : WaitingState). record (process_of c.args.self.now) { life = life_of c.take-outcome.new.self; waiting = w })
+    c.in_ok-add_due-in-Some.ensures.added)
 
-pub returns-in_ok-add-in-None-clause-outcome : goal.returns-in_ok-add-in-None-clause-outcome
-returns-in_ok-add-in-None-clause-outcome g c =
-    was_taken g.S.Stable (server_of c.args.self.now) _ c.args.connection c.args.submission c.take-outcome.result c.value-number.result
-    c.value-number.ensures.value
+pub returns-in_ok-add-in-None-clause-taken : goal.returns-in_ok-add-in-None-clause-taken
+returns-in_ok-add-in-None-clause-taken g c =
+    line_submitted g.S.Stable (process_of c.args.self.now)
+    (record (process_of c.args.self.now) {
+      life = life_of c.take-outcome.new.self;
+      waiting = c.add_claim.new.self;
+      requests = c.add.new.self;
+    })
+    c.args.connection c.args.text.now c.args.submission c.take-outcome.result c.value-number.result c.value-number.ensures.value c.requires
     (subst (λ (i : Input). Does g.S.Stable (life_of c.args.self.now.life) (Took i) c.take-outcome.result (life_of c.take-outcome.new.self)) c.input_of.ensures c.take-outcome.ensures)
     (subst (λ (o : Option NodeFault). IsRefusal c.take-outcome.result (Ok o)) c.in-None.is c.in_ok-fault.ensures)
-    c.in_ok-add_claim-in-None.ensures.added
-
-pub returns-in_ok-add_due-in-Some-clause-stays : goal.returns-in_ok-add_due-in-Some-clause-stays
-returns-in_ok-add_due-in-Some-clause-stays g c =
-    stays_taking g.S.Stable (life_of c.args.self.now.life) (life_of c.take-outcome.new.self) c.input_of.result c.take-outcome.result _
-    c.take-outcome.ensures c.in_ok-fault.ensures
-
-pub returns-in_ok-add-in-None-clause-stays : goal.returns-in_ok-add-in-None-clause-stays
-returns-in_ok-add-in-None-clause-stays g c =
-    stays_taking g.S.Stable (life_of c.args.self.now.life) (life_of c.take-outcome.new.self) c.input_of.result c.take-outcome.result _
-    c.take-outcome.ensures c.in_ok-fault.ensures
+    c.in_ok-add_claim-in-None.ensures.added c.in_ok-add-in-None.ensures.added refl

@@ -1,24 +1,19 @@
-use Rattle.std.proofs.Common.{◌≡◌, ◌≤◌, ℕ, true, inl, inr, refl, subst, sym}
-use Rattle.serving.specs.Seen.{server_of}
+use Rattle.std.proofs.Common.{◌<◌, ◌≤◌, ℕ, inl, inr, refl, subst}
 use Rattle.life.specs.Seen.{life_of}
 use Rattle.life.specs.Lives.{Does}
 use Rattle.node_model.specs.declared.input.Input.{Input}
 use Rattle.world_model.specs.Lives.{Took}
+use Rattle.node_model.specs.declared.input.Input.TheVariants as input
+use Rattle.serving.specs.Seen.{server_of}
 use Rattle.serving.specs.Turns.{handed_on}
 use Rattle.serving.proofs.Coming.{serves_handed_on, serves_passing_over}
-use Rattle.serving.proofs.Checkpointing.{was_given}
-use Rattle.serving.proofs.Packets.{has_last}
-use Rattle.serving.proofs.Staying.{stays_taking}
-use Rattle.node_model.specs.declared.input.Input.TheVariants as input
+use Rattle.serving.proofs.Givings.{was_given}
+use Rattle.serving.proofs.Packets.{has_last, not_counted}
 use Rattle.serving.proofs.server.Server.submit_once.Goals as goal
 
 pub returns-then-has_counted-clause-serves : goal.returns-then-has_counted-clause-serves
 returns-then-has_counted-clause-serves g c =
     serves_passing_over g.S.Stable (server_of c.args.self.now) _ (handed_on c.args.line.now) refl refl refl
-
-pub returns-then-has_counted-clause-once : goal.returns-then-has_counted-clause-once
-returns-then-has_counted-clause-once g c =
-    λ last is small. refl
 
 pub returns-in_err-refusal-clause-serves : goal.returns-in_err-refusal-clause-serves
 returns-in_err-refusal-clause-serves g c =
@@ -26,32 +21,11 @@ returns-in_err-refusal-clause-serves g c =
     (subst (λ (i : Input). Does g.S.Stable (life_of c.args.self.now.life) (Took i) c.take.result (life_of c.take.new.self)) c.input_of.ensures
     c.take.ensures) refl refl
 
-pub returns-in_err-refusal-clause-once : goal.returns-in_err-refusal-clause-once
-returns-in_err-refusal-clause-once g c =
-    λ last is small.
-    let counted : c.has_counted.result ≡ true =
-    (c.has_counted.ensures last is).1 (subst (λ (n : ℕ). n ≤ last) (sym c.value.ensures.value) small) in
-    let not_counted = c.if-has_counted.false in
-    absurd (cc)
-
 pub returns-clause-serves : goal.returns-clause-serves
 returns-clause-serves g c =
     serves_handed_on g.S.Stable (server_of c.args.self.now) _ c.args.line.now c.args.submission c.take.result c.requires
     (subst (λ (i : Input). Does g.S.Stable (life_of c.args.self.now.life) (Took i) c.take.result (life_of c.take.new.self)) c.input_of.ensures
     c.take.ensures) refl refl
-
-pub returns-clause-once : goal.returns-clause-once
-returns-clause-once g c =
-    λ last is small.
-    let counted : c.has_counted.result ≡ true =
-    (c.has_counted.ensures last is).1 (subst (λ (n : ℕ). n ≤ last) (sym c.value.ensures.value) small) in
-    let not_counted = c.if-has_counted.false in
-    absurd (cc)
-
-pub returns-clause-stays : goal.returns-clause-stays
-returns-clause-stays g c =
-    stays_taking g.S.Stable (life_of c.args.self.now.life) (life_of c.take.new.self) c.input_of.result c.take.result
-    c.in_ok-refusal.field-0 c.take.ensures c.in_ok-refusal.ensures
 
 pub returns-then-has_counted-clause-taken : goal.returns-then-has_counted-clause-taken
 returns-then-has_counted-clause-taken g c =
@@ -66,6 +40,13 @@ returns-then-has_counted-clause-taken g c =
 pub returns-clause-taken : goal.returns-clause-taken
 returns-clause-taken g c =
     let given : Input = input.Submit c.args.submission.client c.args.submission.number c.args.submission.op in
-    inr (was_given g.S.Stable (life_of c.args.self.now.life) (life_of c.take.new.self) given c.take.result c.in_ok-refusal.field-0
-    (subst (λ (i : Input). Does g.S.Stable (life_of c.args.self.now.life) (Took i) c.take.result (life_of c.take.new.self)) c.input_of.ensures
-    c.take.ensures) c.in_ok-refusal.ensures)
+    let last = has_last (life_of c.args.self.now.life).node c.args.submission.client in
+    inr (
+      last.0,
+      last.1,
+      subst (λ (n : ℕ). last.0 < n) c.value.ensures.value
+          (not_counted c.has_counted.result c.value.result last.0 c.if-has_counted.false (c.has_counted.ensures last.0 last.1)),
+      was_given g.S.Stable (life_of c.args.self.now.life) (life_of c.take.new.self) given c.take.result c.in_ok-refusal.field-0
+          (subst (λ (i : Input). Does g.S.Stable (life_of c.args.self.now.life) (Took i) c.take.result (life_of c.take.new.self))
+          c.input_of.ensures c.take.ensures) c.in_ok-refusal.ensures,
+    )

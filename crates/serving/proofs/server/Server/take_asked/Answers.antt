@@ -3,7 +3,12 @@ use Rattle.life.specs.Seen.{life_of}
 use Rattle.clients.specs.ClientLines.{IsClientLine}
 use Rattle.clients.specs.declared.line.ClientLine.{ClientLine}
 use Rattle.clients.specs.declared.line.ClientLine.TheVariants as client_line
+use Rattle.clients.specs.AnswerLines.{answer_line}
+use Rattle.clients.specs.declared.answer.ClientAnswer.TheVariants as answer
 use Rattle.serving.specs.Turns.{last, status}
+use Rattle.serving.specs.Seen.{process_of}
+use Rattle.serving.proofs.Hearing.{line_owed, own_last, own_status}
+use Rattle.serving.proofs.Packets.{on_ok_so}
 use Rattle.serving.proofs.Coming.{just_written}
 use Rattle.serving.proofs.server.Server.take_asked.Goals as goal
 
@@ -24,3 +29,21 @@ pub owe-requires-in-Last : goal.owe-requires-in-Last
 owe-requires-in-Last g c =
     last (life_of c.args.self.now.life).node c.in-Last.client c.last_number-number.result refl c.last_number-number.ensures (just_written c.args.connection c.args.text.now (client_line.Last c.in-Last.client)
     (subst (λ (a : ClientLine). IsClientLine c.args.text.now a) c.in-Last.is c.requires)) refl
+
+pub returns-in-Status-clause-taken : goal.returns-in-Status-clause-taken
+returns-in-Status-clause-taken g c =
+    on_ok_so c.owe.result
+    (line_owed g.S.Stable (process_of c.args.self.now) (process_of c.owe.new.self) c.args.connection c.args.text.now
+    (answer_line (answer.Status c.status-status.result))
+    (own_status (process_of c.args.self.now) c.args.text.now c.status-status.result
+    (subst (λ (a : ClientLine). IsClientLine c.args.text.now a) c.in-Status.is c.requires) c.status-status.ensures))
+    c.owe.ensures.owes
+
+pub returns-in-Last-clause-taken : goal.returns-in-Last-clause-taken
+returns-in-Last-clause-taken g c =
+    on_ok_so c.owe-in-Last.result
+    (line_owed g.S.Stable (process_of c.args.self.now) (process_of c.owe-in-Last.new.self) c.args.connection c.args.text.now
+    (answer_line (answer.Last c.in-Last.client c.last_number-number.result))
+    (own_last (process_of c.args.self.now) c.args.text.now c.in-Last.client c.last_number-number.result
+    (subst (λ (a : ClientLine). IsClientLine c.args.text.now a) c.in-Last.is c.requires) c.last_number-number.ensures))
+    c.owe-in-Last.ensures.owes

@@ -2,11 +2,11 @@ use Rattle.std.proofs.Common.{Option, MatchOption, refl, subst}
 use Rattle.sessions.specs.declared.submission.Submission.{Submission}
 use Rattle.clients.specs.ClientLines.{IsClientLine}
 use Rattle.clients.specs.declared.line.ClientLine.TheVariants as client_line
+use Rattle.life.specs.Seen.{life_of}
 use Rattle.serving.specs.Packets.{SubmitsNothing}
 use Rattle.serving.specs.Seen.{server_of}
 use Rattle.serving.specs.Turns.{handed_on}
 use Rattle.serving.proofs.Coming.{serves_passing_over}
-use Rattle.life.specs.Seen.{life_of}
 use Rattle.serving.proofs.Packets.{on_ok_so, passed_over, taken_over}
 use Rattle.serving.proofs.server.Server.take_handed_on.Goals as goal
 

@@ -1,13 +1,12 @@
 use Rattle.std.proofs.Common.{Result, refl, subst, sym}
-use Rattle.serving.specs.Seen.{server_of}
-use Rattle.serving.proofs.Coming.{serves_message, serves_passing_over}
 use Rattle.life.specs.Seen.{life_of}
-use Rattle.serving.proofs.Checkpointing.{was_given}
-use Rattle.serving.proofs.Staying.{stays_taking}
-use Rattle.serving.specs.Packets.{IsMessageTaken}
 use Rattle.wire.specs.declared.frames.envelope.Envelope.{Envelope}
 use Rattle.wire.specs.declared.frames.fault.WireFault.{WireFault}
 use Rattle.node_model.specs.declared.input.Input.TheVariants as input
+use Rattle.serving.specs.Seen.{server_of}
+use Rattle.serving.specs.Packets.{IsMessageTaken}
+use Rattle.serving.proofs.Coming.{serves_message, serves_passing_over}
+use Rattle.serving.proofs.Givings.{was_given}
 use Rattle.serving.proofs.server.Server.take_message.Goals as goal
 
 pub returns-in_err-refusal-in-Ok-clause-serves : goal.returns-in_err-refusal-in-Ok-clause-serves
@@ -25,11 +24,6 @@ returns-in-Err-Memory-clause-serves g c =
 pub returns-in-Err-clause-serves : goal.returns-in-Err-clause-serves
 returns-in-Err-clause-serves g c =
     serves_passing_over g.S.Stable (server_of c.args.self.now) _ c.args.bytes.now refl refl refl
-
-pub returns-in_ok-refusal-in-Ok-clause-stays : goal.returns-in_ok-refusal-in-Ok-clause-stays
-returns-in_ok-refusal-in-Ok-clause-stays g c =
-    stays_taking g.S.Stable (life_of c.args.self.now.life) (life_of c.receive.new.self) (input.Message c.in-Ok.envelope) c.receive.result
-    c.in_ok-refusal-in-Ok.field-0 c.receive.ensures c.in_ok-refusal-in-Ok.ensures
 
 pub returns-in_ok-refusal-in-Ok-clause-taken : goal.returns-in_ok-refusal-in-Ok-clause-taken
 returns-in_ok-refusal-in-Ok-clause-taken g c =

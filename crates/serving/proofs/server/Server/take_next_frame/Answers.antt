@@ -1,11 +1,11 @@
-use Rattle.std.proofs.Common.{ℕ, List, [], ◌∷◌, Ok, ap, sym, ◌∙◌}
-use Rattle.serving.specs.Seen.{server_of}
-use Rattle.serving.specs.Tapes.{Arrived, came_in}
+use Rattle.std.proofs.Common.{refl, ℕ, List, [], ◌∷◌, Ok, ap, sym, ◌∙◌}
+use Rattle.serving.specs.Tapes.{is_arrival, Arrived, NothingCame, came_in}
+use Rattle.serving.proofs.Taking.{counts_one}
+use Rattle.serving.specs.Seen.{process_of, server_of}
 use Rattle.serving.specs.Outgoing.{IsArrival}
-use Rattle.serving.proofs.Passing.{nodes_polled, nodes_polled_none, nodes_quiet, nodes_then, only_none_by, only_one_as}
-use Rattle.serving.proofs.Staying.{stays_itself, stays_then}
-use Rattle.life.specs.Seen.{life_of}
-use Rattle.serving.proofs.Learning.{learns_none_as, learns_one_as, learns_still}
+use Rattle.serving.proofs.Arriving.{nodes_moves_polled, nodes_moves_polled_nothing}
+use Rattle.serving.proofs.Moving.{nodes_moves_quiet, nodes_moves_then}
+use Rattle.serving.proofs.Passing.{nodes_polled, nodes_polled_none, nodes_polled_nothing, nodes_quiet, nodes_then, only_one_as, passes_one}
 use Rattle.serving.proofs.server.Server.take_next_frame.Goals as goal
 
 pub returns-in_err-came-clause-serves : goal.returns-in_err-came-clause-serves
@@ -14,7 +14,7 @@ returns-in_err-came-clause-serves g c =
 
 pub returns-in_default-clause-serves : goal.returns-in_default-clause-serves
 returns-in_default-clause-serves g c =
-    nodes_polled_none g.S.Stable g.N.Network.tape g.N.Network.Tells (server_of c.args.self.now) _ _ (came_in c.poll.result) (ap came_in (c.in_ok-came.was ∙ ap Ok c.in_default.is)) c.poll.ensures.tape c.poll.ensures.told
+    nodes_polled_nothing g.S.Stable g.N.Network.tape g.N.Network.Tells (server_of c.args.self.now) _ _ (came_in c.poll.result) (ap came_in (c.in_ok-came.was ∙ ap Ok c.in_default.is)) c.poll.ensures.tape c.poll.ensures.told
 
 pub returns-in_err-take_frame-clause-serves : goal.returns-in_err-take_frame-clause-serves
 returns-in_err-take_frame-clause-serves g c =
@@ -36,18 +36,10 @@ returns-clause-serves g c =
     c.poll.ensures.tape c.poll.ensures.told c.take_frame.ensures.serves)
     (nodes_quiet g.S.Stable g.N.Network.tape g.N.Network.Tells _ _ _ c.take_own.ensures.serves)
 
-pub returns-in_default-clause-stays : goal.returns-in_default-clause-stays
-returns-in_default-clause-stays g c =
-    stays_itself g.S.Stable (life_of c.args.self.now.life).node
-
-pub returns-clause-stays : goal.returns-clause-stays
-returns-clause-stays g c =
-    stays_then g.S.Stable _ _ _ c.in_ok-take_frame.ensures.stays c.in_ok-take_own.ensures.stays
-
 pub returns-in_default-clause-comes : goal.returns-in_default-clause-comes
 returns-in_default-clause-comes g c =
-    only_none_by g.N.Network.tape g.N.Network.Tells IsArrival _ _ (came_in c.poll.result) (ap came_in (c.in_ok-came.was ∙ ap Ok c.in_default.is))
-    c.poll.ensures.tape c.poll.ensures.told
+    only_one_as g.N.Network.tape g.N.Network.Tells IsArrival c.args.network.now c.poll.new.self (came_in c.poll.result) NothingCame
+    (ap came_in (c.in_ok-came.was ∙ ap Ok c.in_default.is)) c.poll.ensures.tape c.poll.ensures.told tt
 
 pub returns-clause-comes : goal.returns-clause-comes
 returns-clause-comes g c =
@@ -55,17 +47,30 @@ returns-clause-comes g c =
     (ap came_in (c.in_ok-came.was ∙ ap Ok c.in-Some.is) ∙ ap (λ (b : List ℕ). Arrived b ∷ []) (sym c.as_slice.ensures.value))
     c.poll.ensures.tape c.poll.ensures.told tt
 
-pub returns-in_default-clause-learns : goal.returns-in_default-clause-learns
-returns-in_default-clause-learns g c =
-    learns_none_as g.N.Network.tape g.N.Network.Tells c.args.self.now c.args.network.now c.poll.new.self (came_in c.poll.result)
+pub returns-in_default-clause-moves : goal.returns-in_default-clause-moves
+returns-in_default-clause-moves g c =
+    nodes_moves_polled_nothing g.S.Stable c.args.now g.N.Network.tape g.N.Network.Tells (process_of c.args.self.now) c.args.network.now
+    c.poll.new.self (came_in c.poll.result) (ap came_in (c.in_ok-came.was ∙ ap Ok c.in_default.is)) c.poll.ensures.tape
+    c.poll.ensures.told
+
+pub returns-clause-moves : goal.returns-clause-moves
+returns-clause-moves g c =
+    nodes_moves_then g.S.Stable c.args.now g.N.Network.tape g.N.Network.Tells (process_of c.args.self.now)
+    (process_of c.take_frame.new.self) (process_of c.take_own.new.self) c.args.network.now c.poll.new.self c.poll.new.self
+    (nodes_moves_polled g.S.Stable c.args.now g.N.Network.tape g.N.Network.Tells (process_of c.args.self.now)
+    (process_of c.take_frame.new.self) c.args.network.now c.poll.new.self (came_in c.poll.result) c.as_slice.result.now
+    (ap came_in (c.in_ok-came.was ∙ ap Ok c.in-Some.is) ∙ ap (λ (b : List ℕ). Arrived b ∷ []) (sym c.as_slice.ensures.value))
+    c.poll.ensures.tape c.poll.ensures.told c.in_ok-take_frame.ensures.moves)
+    (nodes_moves_quiet g.S.Stable c.args.now g.N.Network.tape g.N.Network.Tells (process_of c.take_frame.new.self)
+    (process_of c.take_own.new.self) c.poll.new.self (c.in_ok-take_own.ensures.moves c.args.now))
+
+pub returns-in_default-clause-quiet : goal.returns-in_default-clause-quiet
+returns-in_default-clause-quiet g c =
+    λ is. passes_one g.N.Network.tape g.N.Network.Tells NothingCame c.args.network.now c.poll.new.self (came_in c.poll.result)
     (ap came_in (c.in_ok-came.was ∙ ap Ok c.in_default.is)) c.poll.ensures.tape c.poll.ensures.told
 
-pub returns-clause-learns : goal.returns-clause-learns
-returns-clause-learns g c =
-    learns_still g.N.Network.tape g.N.Network.Tells c.args.self.now c.take_frame.new.self c.take_own.new.self c.args.network.now
-    c.poll.new.self
-    (learns_one_as g.N.Network.tape g.N.Network.Tells c.args.self.now c.take_frame.new.self c.args.network.now c.poll.new.self
-    (came_in c.poll.result) (Arrived c.as_slice.result.now)
-    (ap came_in (c.in_ok-came.was ∙ ap Ok c.in-Some.is) ∙ ap (λ (b : List ℕ). Arrived b ∷ []) (sym c.as_slice.ensures.value))
-    c.poll.ensures.tape c.poll.ensures.told c.take_frame.ensures.node.0 c.take_frame.ensures.node.1 c.in_ok-take_frame.ensures.learns)
-    c.take_own.ensures.knows
+pub returns-clause-takes : goal.returns-clause-takes
+returns-clause-takes g c =
+    λ is. counts_one g.N.Network.tape g.N.Network.Tells is_arrival c.args.network.now c.poll.new.self (came_in c.poll.result) (Arrived c.as_slice.result.now)
+    (ap came_in (c.in_ok-came.was ∙ ap Ok c.in-Some.is) ∙ ap (λ (b : List ℕ). Arrived b ∷ []) (sym c.as_slice.ensures.value)) refl
+    c.poll.ensures.tape c.poll.ensures.told

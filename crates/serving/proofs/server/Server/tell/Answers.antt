@@ -3,10 +3,10 @@ use Rattle.life.specs.Seen.{life_of}
 use Rattle.serving.specs.Resting.{IsCheckpointed, IsFull}
 use Rattle.serving.specs.Waitings.{WaitingState}
 use Rattle.serving.proofs.HandingOn.{rightly_behind}
-use Rattle.serving.proofs.KeepingEachOver.{each_quiet, each_then, each_waits}
+use Rattle.serving.specs.Seen.{process_of}
+use Rattle.serving.proofs.Moving.{both_moves_then, both_of_clients, both_of_nodes, clients_moves_quiet, clients_moves_then}
 use Rattle.serving.proofs.Passing.{over_kept, over_sent, over_told}
 use Rattle.serving.proofs.Ripening.{none_ripe_same}
-use Rattle.serving.proofs.Learning.{as_much_then, learns_still, learns_then}
 use Rattle.serving.proofs.server.Server.tell.Goals as goal
 
 pub returns-in_err-has_answered-clause-serves : goal.returns-in_err-has_answered-clause-serves
@@ -43,20 +43,6 @@ returns-clause-serves g c =
     (over_told g.S.Stable g.N.Network.tape g.N.Network.Tells g.D.Desk.tape g.D.Desk.Tells _ _ _ _ _ _ _ _
     (c.let_out.ensures.serves) c.tell_ripe.ensures.serves) c.turn_away.ensures.serves) c.tell_due.ensures.serves) c.hand_on.ensures.serves
 
-pub returns-clause-each : goal.returns-clause-each
-returns-clause-each g c =
-    each_waits g.D.Desk.tape g.D.Desk.Tells _ _ _ _ _
-    (each_then g.D.Desk.tape g.D.Desk.Tells _ _ _ _ _ _
-    (each_then g.D.Desk.tape g.D.Desk.Tells _ _ _ _ _ _
-    (each_then g.D.Desk.tape g.D.Desk.Tells _ _ _ _ _ _ c.in_ok-has_replied.ensures.each c.tell_ripe.ensures.serves.talks.told c.in_ok-has_answered.ensures.each)
-    (λ tells. tells) (each_quiet g.D.Desk.tape g.D.Desk.Tells _ _ c.tell_ripe.new.desk c.in_ok-turn_away.ensures.each))
-    c.tell_due.ensures.serves.talks.told c.in_ok-has_told.ensures.each)
-    c.hand_on.ensures.waits
-
-pub returns-clause-node : goal.returns-clause-node
-returns-clause-node g c =
-    ap (λ l. (life_of l).node) c.hand_on.ensures.life ∙ c.in_ok-has_told.ensures.node ∙ ap (λ l. (life_of l).node) c.turn_away.ensures.life ∙ c.in_ok-has_answered.ensures.node ∙ c.in_ok-has_replied.ensures.node
-
 pub returns-clause-due : goal.returns-clause-due
 returns-clause-due g c =
     ap (λ (w : WaitingState). w.due) c.hand_on.ensures.waits ∙ c.in_ok-has_told.ensures.told
@@ -83,12 +69,42 @@ returns-clause-sends g c =
     rightly_behind g.N.Network.tape g.N.Network.Tells _ _ _ _ _ _ _ _ c.hand_on.ensures.knows.0 c.hand_on.ensures.knows.1
     c.in_ok-has_replied.ensures.frames c.in_ok-hand_on.ensures.sends
 
-pub returns-clause-learns : goal.returns-clause-learns
-returns-clause-learns g c =
-    learns_then g.N.Network.tape g.N.Network.Tells c.args.self.now c.tell_due.new.self c.hand_on.new.self _ _ _
-    (learns_still g.N.Network.tape g.N.Network.Tells c.args.self.now c.let_out.new.self c.tell_due.new.self _ _
-    c.in_ok-has_replied.ensures.learns
-    (as_much_then c.let_out.new.self c.turn_away.new.self c.tell_due.new.self
-    (as_much_then c.let_out.new.self c.tell_ripe.new.self c.turn_away.new.self c.tell_ripe.ensures.knows c.turn_away.ensures.knows)
-    c.tell_due.ensures.knows))
-    c.in_ok-hand_on.ensures.learns
+pub returns-clause-moves : goal.returns-clause-moves
+returns-clause-moves g c =
+    let p = process_of c.args.self.now in
+    let out = process_of c.let_out.new.self in
+    let ripe = process_of c.tell_ripe.new.self in
+    let away = process_of c.turn_away.new.self in
+    let told = process_of c.tell_due.new.self in
+    let on = process_of c.hand_on.new.self in
+    let net = c.let_out.new.network in
+    let desk = c.tell_due.new.desk in
+    let held = c.in_ok-has_replied.ensures.held in
+    let held_then = ap (λ l. (life_of l).held) c.turn_away.ensures.life ∙ c.in_ok-has_answered.ensures.held held in
+    both_moves_then g.S.Stable c.args.now g.N.Network.tape g.N.Network.Tells g.D.Desk.tape g.D.Desk.Tells p told on _ net _ _ desk desk
+    (both_moves_then g.S.Stable c.args.now g.N.Network.tape g.N.Network.Tells g.D.Desk.tape g.D.Desk.Tells p out told _ net net _ _ desk
+    c.in_ok-has_replied.ensures.moves
+    (both_of_clients g.S.Stable c.args.now g.N.Network.tape g.N.Network.Tells g.D.Desk.tape g.D.Desk.Tells out told net _ desk
+    (clients_moves_then g.S.Stable c.args.now g.D.Desk.tape g.D.Desk.Tells out away told _ _ desk
+    (clients_moves_then g.S.Stable c.args.now g.D.Desk.tape g.D.Desk.Tells out ripe away _ _ _
+    (c.in_ok-has_answered.ensures.moves c.args.now held)
+    (clients_moves_quiet g.S.Stable c.args.now g.D.Desk.tape g.D.Desk.Tells ripe away _
+    (c.in_ok-turn_away.ensures.moves c.args.now (c.in_ok-has_answered.ensures.held held))))
+    (c.in_ok-has_told.ensures.moves c.args.now held_then
+    (none_ripe_same _ _ _ _ (ap (λ l. (life_of l).node) c.turn_away.ensures.life) c.turn_away.ensures.questions
+    c.in_ok-has_answered.ensures.ripe)))))
+    (both_of_nodes g.S.Stable c.args.now g.N.Network.tape g.N.Network.Tells g.D.Desk.tape g.D.Desk.Tells told on _ _ desk
+    (c.in_ok-hand_on.ensures.moves (c.in_ok-has_told.ensures.held held_then)
+    (λ full. c.tell_due.ensures.requests.1
+    ∙ (c.in_ok-turn_away.ensures.full (subst (λ n. IsFull n) c.in_ok-has_told.ensures.node full)).1)))
+
+pub returns-clause-held : goal.returns-clause-held
+returns-clause-held g c =
+    ap (λ l. (life_of l).held) c.hand_on.ensures.life
+    ∙ c.in_ok-has_told.ensures.held (ap (λ l. (life_of l).held) c.turn_away.ensures.life
+    ∙ c.in_ok-has_answered.ensures.held c.in_ok-has_replied.ensures.held)
+
+pub returns-clause-own : goal.returns-clause-own
+returns-clause-own g c =
+    ap (λ l. (life_of l).own) c.hand_on.ensures.life ∙ c.in_ok-has_told.ensures.own ∙ ap (λ l. (life_of l).own) c.turn_away.ensures.life
+    ∙ c.in_ok-has_answered.ensures.own ∙ c.in_ok-has_replied.ensures.own

@@ -1,19 +1,19 @@
 use Rattle.std.proofs.Common.{refl, ◌∙◌, arith}
-use Rattle.serving.specs.Seen.{server_of}
-use Rattle.serving.proofs.KeepingEachOver.{each_still, each_then}
+use Rattle.serving.specs.Seen.{process_of, server_of}
+use Rattle.serving.proofs.Moving.{clients_moves_none, clients_moves_then}
 use Rattle.serving.proofs.Passing.{clients_none, clients_then}
-use Rattle.serving.proofs.Learning.{as_much, as_much_then}
 use Rattle.serving.proofs.server.Server.tell_due.Goals as goal
 
 pub due-init : goal.due-init
 due-init g c = (
   clients_none g.S.Stable g.D.Desk.tape g.D.Desk.Tells (server_of c.args.self.now) c.args.desk.now,
-  each_still g.D.Desk.tape g.D.Desk.Tells c.args.self.now.waiting c.args.self.now.waiting c.args.desk.now refl,
   refl,
   omega arith,
   λ ripe. ripe,
   (refl, refl),
-  as_much c.args.self.now,
+  λ now held ripe. clients_moves_none g.S.Stable now g.D.Desk.tape g.D.Desk.Tells (process_of c.args.self.now) c.args.desk.now,
+  λ held. held,
+  refl,
 )
 
 pub returns-in_err-tell_next_due-clause-serves : goal.returns-in_err-tell_next_due-clause-serves
@@ -22,18 +22,16 @@ returns-in_err-tell_next_due-clause-serves g c = clients_then g.S.Stable g.D.Des
 pub due-preserved : goal.due-preserved
 due-preserved g c = (
   clients_then g.S.Stable g.D.Desk.tape g.D.Desk.Tells _ _ _ _ _ _ c.due.invariant.0 c.tell_next_due.ensures.serves,
-  each_then g.D.Desk.tape g.D.Desk.Tells _ _ _ _ _ _ c.due.invariant.1 c.tell_next_due.ensures.serves.talks.told
-      c.in_ok-tell_next_due.ensures.each,
-  c.in_ok-tell_next_due.ensures.node ∙ c.due.invariant.2,
-  omega (arith, c.due.invariant.3, c.in_ok-tell_next_due.ensures.less),
-  λ ripe. c.in_ok-tell_next_due.ensures.ripe (c.due.invariant.4 ripe),
+  c.in_ok-tell_next_due.ensures.node ∙ c.due.invariant.1,
+  omega (arith, c.due.invariant.2, c.in_ok-tell_next_due.ensures.less),
+  λ ripe. c.in_ok-tell_next_due.ensures.ripe (c.due.invariant.3 ripe),
   (
-    c.tell_next_due.ensures.requests.0 ∙ c.due.invariant.5.0,
-    c.tell_next_due.ensures.requests.1 ∙ c.due.invariant.5.1,
+    c.tell_next_due.ensures.requests.0 ∙ c.due.invariant.4.0,
+    c.tell_next_due.ensures.requests.1 ∙ c.due.invariant.4.1,
   ),
-  as_much_then c.args.self.now c.due.self c.tell_next_due.new.self c.due.invariant.6 c.tell_next_due.ensures.knows,
+  λ now held ripe. clients_moves_then g.S.Stable now g.D.Desk.tape g.D.Desk.Tells (process_of c.args.self.now) (process_of c.due.self)
+      (process_of c.tell_next_due.new.self) c.args.desk.now c.due.desk c.tell_next_due.new.desk (c.due.invariant.5 now held ripe)
+      (c.in_ok-tell_next_due.ensures.moves now (c.due.invariant.6 held) (c.due.invariant.3 ripe)),
+  λ held. c.in_ok-tell_next_due.ensures.held (c.due.invariant.6 held),
+  c.in_ok-tell_next_due.ensures.own ∙ c.due.invariant.7,
 )
-
-pub returns-in_err-tell_next_due-clause-knows : goal.returns-in_err-tell_next_due-clause-knows
-returns-in_err-tell_next_due-clause-knows g c =
-    as_much_then c.args.self.now c.due.self c.tell_next_due.new.self c.due.invariant.6 c.tell_next_due.ensures.knows

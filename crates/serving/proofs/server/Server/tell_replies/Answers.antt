@@ -1,5 +1,8 @@
-use Rattle.std.proofs.Common.{List, [], ◌∷◌, All, Contains, refl, sym, ap, subst}
-use Rattle.serving.specs.Seen.{server_of}
+use Rattle.std.proofs.Common.{List, [], ◌∷◌, All, Contains, not, refl, sym, ap, subst}
+use Rattle.serving.specs.Claiming.{is_of}
+use Rattle.serving.specs.Seen.{process_of, server_of}
+use Rattle.serving.proofs.MovesOut.{others_settled, replies_more, replies_none}
+use Rattle.std.specs.List.{filter}
 use Rattle.serving.specs.Outgoing.{IsReplyIn}
 use Rattle.serving.specs.declared.claims.Claim.{Claim}
 use Rattle.serving.proofs.Holding.{less_itself, less_settled, less_then}
@@ -7,12 +10,8 @@ use Rattle.serving.proofs.Lists.{reply_of_one}
 use Rattle.serving.proofs.Passing.{only_none, only_then, only_weaker}
 use Rattle.serving.specs.Owing.{reply_told}
 use Rattle.serving.specs.Tapes.{HasPassed}
-use Rattle.serving.proofs.KeepingEach.{keeps_settled}
 use Rattle.serving.proofs.Requested.{unreplied_more, unreplied_none}
-use Rattle.serving.proofs.Settling.{settled_more, settled_none}
 use Rattle.serving.specs.Waitings.{WaitingState}
-use Rattle.serving.proofs.KeepingEachOver.{each_said, each_still, each_then}
-use Rattle.serving.proofs.Learning.{as_much}
 use Rattle.serving.proofs.server.Server.tell_replies.Goals as goal
 
 pub replies-init : goal.replies-init
@@ -20,10 +19,9 @@ replies-init g c = (
   refl,
   less_itself (server_of c.args.self.now),
   only_none g.D.Desk.tape g.D.Desk.Tells (IsReplyIn c.args.replies.now c.args.self.now.waiting.claims) c.args.desk.now,
-  each_still g.D.Desk.tape g.D.Desk.Tells c.args.self.now.waiting c.args.self.now.waiting c.args.desk.now refl,
-  settled_none c.args.self.now.waiting.claims,
   unreplied_none c.args.self.now.requests,
-  as_much c.args.self.now,
+  replies_none g.D.Desk.tape g.D.Desk.Tells c.args.self.now.waiting.claims c.args.desk.now,
+  refl,
 )
 
 pub returns-in_err-tell_reply-clause-tells : goal.returns-in_err-tell_reply-clause-tells
@@ -42,17 +40,15 @@ replies-preserved g c = (
       (only_weaker g.D.Desk.tape g.D.Desk.Tells (IsReplyIn (c.replied-item.result ∷ []) c.claims.result.now) (IsReplyIn c.args.replies.now c.args.self.now.waiting.claims)
       (reply_of_one c.args.replies.now c.replied-item.result c.claims.result.now c.args.self.now.waiting.claims (c.replies.replied-index, c.replies-test.true, sym c.replied-item.is)
       (subst (λ (xs : List Claim). All (Contains c.args.self.now.waiting.claims) xs) (sym c.claims.ensures) c.replies.invariant.1.claims)) _ _ c.tell_reply.ensures.only),
-  each_then g.D.Desk.tape g.D.Desk.Tells _ _ _ _ _ _ c.replies.invariant.3 c.tell_reply.ensures.only.passes.told
-      (each_said g.D.Desk.tape g.D.Desk.Tells (reply_told c.replied-item.result c.replies.self.waiting.claims) c.replies.self.waiting
-      c.settle.new.self c.replies.desk c.tell_reply.new.desk
-      (subst (λ (xs : List Claim). HasPassed g.D.Desk.tape g.D.Desk.Tells c.replies.desk (reply_told c.replied-item.result xs) c.tell_reply.new.desk)
-      c.claims.ensures c.in_ok-tell_reply.ensures.each)
-      (keeps_settled c.replies.self.waiting c.settle.new.self c.replied-item.result c.replied-item.result.client c.value-number.result refl
-      c.value-number.ensures.value c.settle.ensures)),
-  settled_more c.args.replies.now c.replies.replied-index c.replied-item.result c.replies-test.true c.replied-item.is
-      c.replies.self.waiting.claims c.settle.new.self.claims c.value-number.result c.value-number.ensures.value
-      (ap (λ (w : WaitingState). w.claims) c.settle.ensures) c.replies.invariant.4,
   unreplied_more c.args.replies.now c.replies.replied-index c.replied-item.result c.value-number.result c.args.self.now.requests
-      c.replies.self.requests _ c.replies-test.true c.replied-item.is c.value-number.ensures.value c.replies.invariant.5 c.remove.ensures,
-  c.replies.invariant.6,
+      c.replies.self.requests _ c.replies-test.true c.replied-item.is c.value-number.ensures.value c.replies.invariant.3 c.remove.ensures,
+  replies_more g.D.Desk.tape g.D.Desk.Tells c.args.self.now.waiting.claims c.args.replies.now c.replies.replied-index c.replied-item.result
+      c.replies-test.true c.replied-item.is c.replies.self.waiting.claims c.settle.new.self.claims c.value-number.result
+      c.value-number.ensures.value (ap (λ (w : WaitingState). w.claims) c.settle.ensures) c.args.desk.now c.replies.desk
+      c.tell_reply.new.desk c.replies.invariant.4
+      (subst (λ (xs : List Claim). HasPassed g.D.Desk.tape g.D.Desk.Tells c.replies.desk (reply_told c.replied-item.result xs) c.tell_reply.new.desk)
+      c.claims.ensures c.in_ok-tell_reply.ensures.each),
+  others_settled (process_of c.args.self.now) (process_of c.replies.self) c.settle.new.self c.remove.new.self
+      (filter (λ claim. not (is_of c.replied-item.result.client c.value-number.result claim)) c.replies.self.waiting.claims)
+      c.replies.invariant.5 c.settle.ensures,
 )

@@ -2,18 +2,15 @@ use Rattle.std.proofs.Common.{ℕ, List, refl, sym, ap, subst, ◌∙◌, [], ar
 use Rattle.serving.specs.declared.claims.Claim.{Claim}
 use Rattle.life.specs.Seen.{life_of}
 use Rattle.serving.specs.Resting.{IsFull}
-use Rattle.serving.specs.Seen.{server_of}
-use Rattle.serving.proofs.KeepingEach.{keeps_none}
+use Rattle.serving.specs.Seen.{process_of, server_of}
 use Rattle.serving.proofs.Leading.{serves_none, serves_then}
-use Rattle.serving.proofs.Ripening.{full_at, keeps_quietly, not_full_below, nothing_left, serves_clearing}
-use Rattle.serving.proofs.Learning.{as_much, as_much_then}
+use Rattle.serving.proofs.Ripening.{full_at, not_full_below, nothing_left, serves_clearing}
+use Rattle.serving.proofs.Moving.{moves_same, moves_then}
+use Rattle.serving.proofs.MovesOut.{moves_clearing}
 use Rattle.serving.proofs.server.Server.turn_away.Goals as goal
 
 pub returns-then-position-lt-SLOTS-clause-serves : goal.returns-then-position-lt-SLOTS-clause-serves
 returns-then-position-lt-SLOTS-clause-serves g c = serves_none g.S.Stable (server_of c.args.self.now)
-
-pub returns-then-position-lt-SLOTS-clause-each : goal.returns-then-position-lt-SLOTS-clause-each
-returns-then-position-lt-SLOTS-clause-each g c = keeps_none c.args.self.now.waiting c.args.self.now.waiting refl
 
 pub returns-then-position-lt-SLOTS-clause-full : goal.returns-then-position-lt-SLOTS-clause-full
 returns-then-position-lt-SLOTS-clause-full g c =
@@ -22,16 +19,15 @@ returns-then-position-lt-SLOTS-clause-full g c =
 pub claims-init : goal.claims-init
 claims-init g c = (
   serves_none g.S.Stable (server_of c.args.self.now),
-  keeps_none c.args.self.now.waiting c.args.self.now.waiting refl,
   refl,
   refl,
   omega arith,
-  as_much c.args.self.now,
+  λ now held. moves_same g.S.Stable now (process_of c.args.self.now) (process_of c.args.self.now) refl,
 )
 
 pub turn_away_next-requires : goal.turn_away_next-requires
 turn_away_next-requires g c =
-    subst (λ l. IsFull (life_of l).node) (sym c.claims.invariant.2)
+    subst (λ l. IsFull (life_of l).node) (sym c.claims.invariant.1)
     (full_at (life_of c.args.self.now.life).node c.position.result c.position.ensures (omega (arith, c.if-position-lt-SLOTS.false)))
 
 pub returns-in_err-turn_away_next-clause-serves : goal.returns-in_err-turn_away_next-clause-serves
@@ -41,11 +37,12 @@ returns-in_err-turn_away_next-clause-serves g c =
 pub claims-preserved : goal.claims-preserved
 claims-preserved g c = (
   serves_then g.S.Stable _ _ _ [] [] [] [] c.claims.invariant.0 c.turn_away_next.ensures.serves,
-  keeps_quietly _ _ _ c.claims.invariant.1 c.in_ok-turn_away_next.ensures.each,
-  c.turn_away_next.ensures.life ∙ c.claims.invariant.2,
-  c.turn_away_next.ensures.questions ∙ c.claims.invariant.3,
-  omega (arith, c.claims.invariant.4, c.in_ok-turn_away_next.ensures.less),
-  as_much_then c.args.self.now c.claims.self c.turn_away_next.new.self c.claims.invariant.5 c.turn_away_next.ensures.knows,
+  c.turn_away_next.ensures.life ∙ c.claims.invariant.1,
+  c.turn_away_next.ensures.questions ∙ c.claims.invariant.2,
+  omega (arith, c.claims.invariant.3, c.in_ok-turn_away_next.ensures.less),
+  λ now held. moves_then g.S.Stable now (process_of c.args.self.now) (process_of c.claims.self) (process_of c.turn_away_next.new.self)
+      [] [] [] [] (c.claims.invariant.4 now held)
+      (c.in_ok-turn_away_next.ensures.moves now (ap (λ l. (life_of l).held) c.claims.invariant.1 ∙ held)),
 )
 
 pub returns-clause-serves : goal.returns-clause-serves
@@ -54,11 +51,20 @@ returns-clause-serves g c =
 
 pub returns-clause-full : goal.returns-clause-full
 returns-clause-full g c = λ full. (
-  nothing_left _ _ c.claims.counter c.claims.invariant.4
+  nothing_left _ _ c.claims.counter c.claims.invariant.3
       (omega (arith, ap {B = ℕ} (λ (cs : List Claim). length cs) c.claims-end.ensures)),
   c.clear.ensures,
 )
 
-pub returns-in_err-turn_away_next-clause-knows : goal.returns-in_err-turn_away_next-clause-knows
-returns-in_err-turn_away_next-clause-knows g c =
-    as_much_then c.args.self.now c.claims.self c.turn_away_next.new.self c.claims.invariant.5 c.turn_away_next.ensures.knows
+pub returns-then-position-lt-SLOTS-clause-moves : goal.returns-then-position-lt-SLOTS-clause-moves
+returns-then-position-lt-SLOTS-clause-moves g c = λ now held.
+    moves_same g.S.Stable now (process_of c.args.self.now) (process_of c.args.self.now) refl
+
+pub returns-clause-moves : goal.returns-clause-moves
+returns-clause-moves g c = λ now held.
+    moves_then g.S.Stable now (process_of c.args.self.now) (process_of c.claims.self)
+    (record (process_of c.claims.self) { requests = c.clear.new.self }) [] [] [] [] (c.claims.invariant.4 now held)
+    (moves_clearing g.S.Stable now (process_of c.claims.self) c.clear.new.self (ap (λ l. (life_of l).held) c.claims.invariant.1 ∙ held)
+    (subst (λ l. IsFull (life_of l).node) (sym c.claims.invariant.1)
+    (full_at (life_of c.args.self.now.life).node c.position.result c.position.ensures (omega (arith, c.if-position-lt-SLOTS.false))))
+    c.clear.ensures)

@@ -1,0 +1,249 @@
+-- What a process does in a turn, move by move.
+use Rattle.std.specs.Prelude.{◌≡◌, ◌≢◌, ◌<◌, ◌≤◌, ◌⊎◌, ℕ, All, List, [], ◌∷◌, ◌++◌, length, min, Option, Result, Ok, Err, not, true}
+use Rattle.std.specs.List.{filter}
+use Rattle.std.specs.Global.{Vec}
+use Rattle.sessions.specs.declared.submission.Submission.{Submission}
+use Rattle.stable.specs.declared.stable.Stable.{Ghosts}
+use Rattle.wire.specs.FrameReading.{frame_in}
+use Rattle.node_model.specs.Faults.{node_code}
+use Rattle.node_model.specs.Outputs.{Response}
+use Rattle.node_model.specs.declared.fault.NodeFault.{NodeFault}
+use Rattle.node_model.specs.declared.fault.NodeFault.TheVariants as node_fault
+use Rattle.node_model.specs.declared.input.Input.{Input}
+use Rattle.node_model.specs.declared.input.Input.TheVariants as input
+use Rattle.world_model.specs.Lives.{Asked, Took}
+use Rattle.world_model.specs.declared.lists.Replied.{Replied}
+use Rattle.life.specs.Lives.{GoesOn, LifeState, TakesFirst}
+use Rattle.life.specs.Telling.{nothing}
+use Rattle.schedule.specs.Causes.{cause_code}
+use Rattle.schedule.specs.declared.fault.ScheduleFault.{ScheduleFault}
+use Rattle.schedule.specs.declared.replay_fault.ReplayCause.TheVariants.{Schedule}
+use Rattle.store.specs.declared.query.Query.{Query}
+use Rattle.clients.specs.AnswerLines.{answer_line, status_line, text_line}
+use Rattle.clients.specs.ClientLines.{IsClientFault, IsClientLine}
+use Rattle.clients.specs.declared.answer.ClientAnswer.TheVariants as answer
+use Rattle.clients.specs.declared.answer.Status.{Status}
+use Rattle.clients.specs.declared.line.ClientLine.TheVariants as line
+use Rattle.serving.specs.Claiming.{is_for, is_of}
+use Rattle.serving.specs.Knowing.{IsLastNumber, IsPosition}
+use Rattle.serving.specs.Outgoing.{AreFramesOf, ArePacketsOf}
+use Rattle.serving.specs.Owing.{HasRoom, reply_told}
+use Rattle.serving.specs.Packets.{IsMessageTaken, IsTakenOver}
+use Rattle.serving.specs.Processes.{ProcessState, is_asked_in}
+use Rattle.serving.specs.Refusals.{IsRefused}
+use Rattle.serving.specs.Requesting.{HandsOnFirst, RequestState, is_marked, unreplied, with_request}
+use Rattle.serving.specs.Resting.{IsCheckpointed, IsFull}
+use Rattle.serving.specs.Staying.{WasGiven}
+use Rattle.serving.specs.Tapes.{Arrived, Carried, Heard, NothingCame, NothingHeard, Talk, Told, Went}
+use Rattle.serving.specs.Timings.{IsCampaignDue, IsTickDue, TimingState, all_own_seen, campaigned, leader_in, position_seen}
+use Rattle.serving.specs.Turns.{first_position, handed_on}
+use Rattle.serving.specs.Waitings.{IsFirstRipe, IsHeldBack, WaitingState, is_asked_by, is_told_to}
+use Rattle.serving.specs.declared.claims.Claim.{Claim}
+use Rattle.serving.specs.declared.waiting.Due.{Due}
+use Rattle.serving.specs.declared.waiting.Due.TheVariants as due
+use Rattle.serving.specs.declared.waiting.Question.{Question}
+
+-- ---- what comes from other nodes
+-- a request that another process hands on, or a message
+pub record IsPacketTaken {S : Type 0} (storages : Ghosts S) (nodes now : ℕ) (bytes : List ℕ) (old : LifeState S) (knew : TimingState)
+    (new : LifeState S) (knows : TimingState) : Type 0 where
+  pub request : (line : List ℕ) → bytes ≡ handed_on line → IsTakenOver storages line old new × (knows ≡ knew)
+  pub message : ((line : List ℕ) → bytes ≢ handed_on line)
+      → IsMessageTaken storages now (frame_in nodes bytes) old knew new knows
+
+-- the node takes the frame to itself that has waited longest, or refuses it and is up
+pub record TakesOwn {S : Type 0} (storages : Ghosts S) (old new : LifeState S) : Type 0 where
+  pub result : Result Response NodeFault
+  pub takes : TakesFirst storages old result new
+  pub goes_on : (fault : NodeFault) → result ≡ Err fault → IsRefused fault
+
+-- ---- what comes from clients
+-- the connection is to be told this line
+abbrev pub owing : ℕ → Vec ℕ → WaitingState → WaitingState
+owing connection line waiting = record waiting { due = waiting.due ++ due.Line connection line ∷ [] }
+
+-- it is gone, and waits for nothing
+abbrev pub forgetting : ℕ → WaitingState → WaitingState
+forgetting connection waiting = record waiting {
+  claims = filter (λ claim. not (is_for connection claim)) waiting.claims;
+  questions = filter (λ question. not (is_asked_by connection question)) waiting.questions;
+  due = filter (λ what. not (is_told_to connection what)) waiting.due;
+}
+
+-- the status of a process
+pub record IsStatus {S : Type 0} (p : ProcessState S) (status : Status) : Type 0 where
+  pub node : status.node ≡ p.own
+  pub position : IsPosition p.life.node status.position
+  pub horizon : status.horizon ≡ p.timing.horizon
+  pub leader : status.leader ≡ leader_in p.timing
+  pub waiting : status.waiting ≡ min 255 (length p.requests)
+
+-- what the process answers to a line by itself
+pub data IsOwnAnswer {S : Type 0} (p : ProcessState S) (text answered : List ℕ) : Type 0 where
+  fault : (found : ScheduleFault) → IsClientFault text (Schedule found)
+      → answered ≡ answer_line (answer.Fault (cause_code (Schedule found))) → IsOwnAnswer p text answered
+  status : (known : Status) → IsClientLine text line.Status → IsStatus p known → answered ≡ status_line known → IsOwnAnswer p text answered
+  last : (client number : ℕ) → IsClientLine text (line.Last client) → IsLastNumber p.life.node client number
+      → answered ≡ answer_line (answer.Last client number) → IsOwnAnswer p text answered
+
+abbrev pub claim_of : ℕ → Submission → Claim
+claim_of connection submission =
+    record { connection = connection; client = submission.client; number = submission.number }
+
+abbrev pub input_of : Submission → Input
+input_of submission = input.Submit submission.client submission.number submission.op
+
+-- by what it asks for
+pub data IsLineTaken {S : Type 0} (storages : Ghosts S) (p : ProcessState S) (connection : ℕ) (text : List ℕ) : ProcessState S → Type 0
+  where
+    -- the node takes the request: the connection waits for the reply, and the request waits to be handed on
+    submits : (submission : Submission) (said : Response) (life : LifeState S) → IsClientLine text (line.Submit submission)
+        → GoesOn storages p.life (Took (input_of submission) (Ok said)) life
+        → IsLineTaken storages p connection text (record p {
+          life = life;
+          waiting = record p.waiting { claims = p.waiting.claims ++ claim_of connection submission ∷ [] };
+          requests = with_request submission.client submission.number text p.requests;
+        })
+    -- it refuses it
+    refuses : (submission : Submission) (fault : NodeFault) (life : LifeState S) (refusal : Vec ℕ)
+        → IsClientLine text (line.Submit submission) → GoesOn storages p.life (Took (input_of submission) (Err fault)) life
+        → IsRefused fault → refusal.items ≡ answer_line (answer.Refused submission.client submission.number (node_code fault))
+        → IsLineTaken storages p connection text (record p { life = life; waiting = owing connection refusal p.waiting })
+    -- the query is due at the end of the turn
+    asks : (query : Query) (position : Option ℕ) → IsClientLine text (line.Query query position)
+        → IsLineTaken storages p connection text (record p {
+          waiting = record p.waiting {
+            due = p.waiting.due
+                ++ due.Answer (record { connection = connection; query = query; from = first_position position }) ∷ [];
+          };
+        })
+    -- an answer of the process is
+    owes : (answered : Vec ℕ) → IsOwnAnswer p text answered.items
+        → IsLineTaken storages p connection text (record p { waiting = owing connection answered p.waiting })
+
+-- ---- what is due by the clock
+-- the node is given an input where that is due, and that is noted; elsewhere nothing happens
+abbrev pub IsGivenWhere : {S : Type 0} → Ghosts S → Type 0 → Input → TimingState → LifeState S → TimingState → LifeState S → TimingState
+    → Type 0
+IsGivenWhere storages Due given noted old knew new knows =
+    (Due × WasGiven storages old given new × (knows ≡ noted)) ⊎ ((¬ Due) × (new ≡ old) × (knows ≡ knew))
+
+-- the node campaigns where that is due, and then ticks where that is due
+pub record KeepsTime {S : Type 0} (storages : Ghosts S) (now : ℕ) (p : ProcessState S) (life : LifeState S) (knows : TimingState)
+    : Type 0 where
+  pub position : ℕ
+  pub at : IsPosition p.life.node position
+  pub looked : TimingState
+  pub looks : looked ≡ position_seen position (is_asked_in p) now p.timing
+  pub between : LifeState S
+  pub knew : TimingState
+  pub campaigns : IsGivenWhere storages (IsCampaignDue position (is_asked_in p) now looked) input.Timeout (campaigned now looked)
+      p.life looked between knew
+  pub ticks : IsGivenWhere storages (IsTickDue position (is_asked_in p) now knew) input.Tick (record knew { ticked = now })
+      between knew life knows
+
+-- a checkpoint, and what it stands for is taken out
+pub record KeepsRecords {S : Type 0} (storages : Ghosts S) (old new : LifeState S) : Type 0 where
+  pub due : ¬ IsCheckpointed old.node
+  pub between : LifeState S
+  pub checkpoints : WasGiven storages old input.Checkpoint between
+  pub trims : WasGiven storages between input.Trim new
+
+-- ---- what goes out
+-- each of these replies is told once to each who waits for it, and nobody waits for it any more
+pub data AreRepliesTold (claims : List Claim) : List Replied → List Talk → List Claim → Type 0 where
+  none : AreRepliesTold claims [] [] claims
+  next : (replies : List Replied) (said : List Talk) (left : List Claim) (replied : Replied) → AreRepliesTold claims replies said left
+      → AreRepliesTold claims (replies ++ replied ∷ []) (said ++ reply_told replied left)
+      (filter (λ claim. not (is_of replied.client replied.number claim)) left)
+
+-- the query is the first that is held back no more, or where there is none such, the next that is due and isn't to be held back
+pub data IsNextAnswered (position : ℕ) (old new : WaitingState) (question : Question) : Type 0 where
+  was_held_back : IsFirstRipe position old.questions new.questions question → new ≡ record old { questions = new.questions }
+      → IsNextAnswered position old new question
+  is_due : All (IsHeldBack position) old.questions → old.due ≡ due.Answer question ∷ new.due → new ≡ record old { due = new.due }
+      → question.from ≤ position
+      → IsNextAnswered position old new question
+
+-- the node is asked, and its answer is told
+pub record IsAnswered {S : Type 0} (storages : Ghosts S) (old : LifeState S) (question : Question) (said : List Talk) (new : LifeState S)
+    : Type 0 where
+  pub told : ℕ × List ℕ
+  pub asked : LifeState S
+  pub asks : GoesOn storages old (Asked question.query (Ok told)) asked
+  pub says : said ≡ Told question.connection (text_line told.0 told.1) ∷ []
+  pub leaves : new ≡ record asked { held = nothing }
+
+-- ---- one move: what it sends, hears and tells
+module _ {S : Type 0} (storages : Ghosts S) (now : ℕ) where
+  pub data Move : ProcessState S → List Carried → List Talk → ProcessState S → Type 0 where
+    takes_packet : (p : ProcessState S) (bytes : List ℕ) (life : LifeState S) (knows : TimingState)
+        → IsPacketTaken storages p.nodes now bytes p.life p.timing life knows
+        → Move p (Arrived bytes ∷ []) [] (record p { life = life; timing = knows })
+    takes_own : (p : ProcessState S) (life : LifeState S) → TakesOwn storages p.life life → Move p [] [] (record p { life = life })
+    -- nothing has come; no client has done anything that may be read
+    finds_nothing : (p : ProcessState S) → Move p (NothingCame ∷ []) [] p
+    hears_nothing : (p : ProcessState S) → Move p [] (NothingHeard ∷ []) p
+    -- fewer lines of the connection wait than may
+    hears : (p q : ProcessState S) (connection : ℕ) (text : List ℕ) → HasRoom p.waiting (Heard connection text)
+        → IsLineTaken storages p connection text q → Move p [] (Heard connection text ∷ []) q
+    forgets : (p : ProcessState S) (connection : ℕ)
+        → Move p [] (Went connection ∷ []) (record p { waiting = forgetting connection p.waiting })
+    keeps_time : (p : ProcessState S) (life : LifeState S) (knows : TimingState) → KeepsTime storages now p life knows
+        → Move p [] [] (record p { life = life; timing = knows })
+    keeps_records : (p : ProcessState S) (life : LifeState S) → KeepsRecords storages p.life life
+        → Move p [] [] (record p { life = life })
+    -- all that it holds
+    lets_out : (p : ProcessState S) (sent : List Carried) (said : List Talk) (claims : List Claim)
+        → AreFramesOf p.life.held.frames sent → AreRepliesTold p.waiting.claims p.life.held.replies said claims
+        → Move p sent said (record p {
+          life = record p.life { held = nothing };
+          waiting = record p.waiting { claims = claims };
+          requests = unreplied p.life.held.replies p.requests;
+          timing = all_own_seen p.life.held.frames now p.timing;
+        })
+    answers : (p : ProcessState S) (position : ℕ) (question : Question) (waiting : WaitingState) (said : List Talk) (life : LifeState S)
+        → p.life.held ≡ nothing → IsPosition p.life.node position → IsNextAnswered position p.waiting waiting question
+        → IsAnswered storages p.life question said life → Move p [] said (record p { life = life; waiting = waiting })
+    holds_back : (p : ProcessState S) (position : ℕ) (question : Question) (rest : List Due)
+        → p.waiting.due ≡ due.Answer question ∷ rest → IsPosition p.life.node position → position < question.from
+        → Move p [] [] (record p {
+          waiting = record p.waiting { questions = p.waiting.questions ++ question ∷ []; due = rest };
+        })
+    tells : (p : ProcessState S) (connection : ℕ) (line : Vec ℕ) (rest : List Due) → p.waiting.due ≡ due.Line connection line ∷ rest
+        → Move p [] (Told connection line.items ∷ []) (record p { waiting = record p.waiting { due = rest } })
+    -- every reply was told and the log is full: the request is executed never, and handed on to nobody
+    turns_away : (p : ProcessState S) (claim : Claim) (rest : List Claim) (refusal : Vec ℕ) → p.life.held ≡ nothing
+        → IsFull p.life.node → p.waiting.claims ≡ claim ∷ rest
+        → refusal.items ≡ answer_line (answer.Refused claim.client claim.number (node_code node_fault.LogFull))
+        → Move p [] [] (record p { waiting = owing claim.connection refusal (record p.waiting { claims = rest }) })
+    clears : (p : ProcessState S) → p.life.held ≡ nothing → IsFull p.life.node → Move p [] [] (record p { requests = [] })
+    hands_on : (p : ProcessState S) (place : ℕ) (requests : List RequestState) (sent : List Carried)
+        → p.life.held ≡ nothing → ¬ IsFull p.life.node
+        → (first : HandsOnFirst now place p.requests requests) → is_marked first.request.packet ≡ true
+        → ArePacketsOf (leader_in p.timing) p.own first.request.packet p.nodes sent
+        → Move p sent [] (record p { requests = requests })
+    -- at its node's position
+    looks : (p : ProcessState S) (position : ℕ) → IsPosition p.life.node position
+        → Move p [] [] (record p { timing = position_seen position (is_asked_in p) now p.timing })
+
+  -- one move after the other
+  pub data Moves : ProcessState S → List Carried → List Talk → ProcessState S → Type 0 where
+    none : (p : ProcessState S) → Moves p [] [] p
+    next : (p q r : ProcessState S) (sent more : List Carried) (said told : List Talk) → Moves p sent said q → Move q more told r
+        → Moves p (sent ++ more) (said ++ told) r
+
+  -- among them one that keeps the time
+  pub record IsTurn (p : ProcessState S) (sent : List Carried) (said : List Talk) (r : ProcessState S) : Type 0 where
+    pub q : ProcessState S
+    pub sent_before : List Carried
+    pub said_before : List Talk
+    pub before : Moves p sent_before said_before q
+    pub life : LifeState S
+    pub knows : TimingState
+    pub keeps_time : KeepsTime storages now q life knows
+    pub sent_after : List Carried
+    pub said_after : List Talk
+    pub after : Moves (record q { life = life; timing = knows }) sent_after said_after r
+    pub all_sent : sent ≡ sent_before ++ sent_after
+    pub all_said : said ≡ said_before ++ said_after
