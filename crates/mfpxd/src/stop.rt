@@ -2,6 +2,8 @@
 
 ghost use Rattle.std.specs.Prelude.{◌≡◌};
 ghost use Rattle.mfpxd.specs.Stops.{status_of};
+ghost use Rattle.mfpxd.specs.declared.stop.Stop.TheVariants as stop;
+ghost use Rattle.serving.specs.declared.fault.TurnFault.TheVariants as turn_fault;
 
 use crate::refusal::Refusal;
 use serving::TurnFault;
@@ -46,36 +48,48 @@ impl fmt::Display for Stop {
 }
 
 impl From<Refusal> for Stop {
+    ghost from_gives = { λ given why. why ≡ stop.Refused given };
+
     fn from(refusal: Refusal) -> Stop {
         Stop::Refused(refusal)
     }
 }
 
 impl From<io::Error> for Stop {
+    ghost from_gives = { λ given why. why ≡ stop.Device given };
+
     fn from(error: io::Error) -> Stop {
         Stop::Device(error)
     }
 }
 
 impl From<StableFault> for Stop {
+    ghost from_gives = { λ given why. why ≡ stop.Records given };
+
     fn from(fault: StableFault) -> Stop {
         Stop::Records(fault)
     }
 }
 
 impl From<TurnFault> for Stop {
+    ghost from_gives = { λ given why. why ≡ stop.Turn given };
+
     fn from(fault: TurnFault) -> Stop {
         Stop::Turn(fault)
     }
 }
 
 impl From<AllocError> for Stop {
+    ghost from_gives = { λ _ why. why ≡ stop.Turn turn_fault.Memory };
+
     fn from(_: AllocError) -> Stop {
         Stop::Turn(TurnFault::Memory)
     }
 }
 
 impl<T: Drop> From<AllocFailed<T>> for Stop {
+    ghost from_gives = { λ _ why. why ≡ stop.Turn turn_fault.Memory };
+
     fn from(_: AllocFailed<T>) -> Stop {
         Stop::Turn(TurnFault::Memory)
     }
