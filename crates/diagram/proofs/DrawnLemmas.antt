@@ -1,94 +1,93 @@
 -- From arrows to the frames of a window.
-use Rattle.std.proofs.Common.{◌≡◌, ◌∙◌, ℕ, ◌+◌, ◌-◌, ◌<◌, ◌≤◌, List, [], ◌∷◌, length, slice_index_or, ◌++◌, slice_get, Option, Some, None, Result, Ok, Err, OnOk, IfOk, sym, ap, subst, below_more, arith}
-use Rattle.std.proofs.lemmas.List.{get_or_read}
+use Rattle.std.proofs.Common.{◌≡◌, ◌∙◌, ℕ, ◌+◌, ◌<◌, List, [], ◌∷◌, ◌++◌, length, map, take, slice_index_or, slice_get, Option, Some, None, Result, Ok, Err, OnOk, IfOk, sym, ap, subst}
+use Rattle.std.proofs.lemmas.List.{map-append, take_more}
 use Rattle.std.proofs.lemmas.Option.{none-some}
 use Rattle.std.proofs.lemmas.Result.{on_ok_weaker}
-use Rattle.picture.proofs.Growth.{grows_by, grows_on, has_still}
-use Rattle.picture.specs.Growing.{Grows, Has}
+use Rattle.picture.specs.Elements.{picture_begun, picture_ended}
 use Rattle.wire.specs.declared.frames.envelope.Envelope.{Envelope}
 use Rattle.diagram.specs.Arrows.{AreArrows, IsArrow}
-use Rattle.diagram.specs.Pictures.{AreDrawn, HasGroup, HaveGroups, IsDrawn, IsWhole, ShowsAsked, group_of}
+use Rattle.diagram.specs.Facts.{facts_of}
+use Rattle.diagram.specs.Pictures.{AreDrawn, AreThere, DrawsFrames, IsThere, IsWhole, ShowsAsked, title_by, title_in, title_text}
+use Rattle.diagram.specs.Titles.{Draws}
 use Rattle.diagram.specs.Windows.{IsChosen}
 use Rattle.diagram.specs.declared.arrows.Arrow.{Arrow}
 use Rattle.diagram.specs.declared.layout.Window.{Window}
 use Rattle.diagram.specs.declared.scene.Scene.{Scene}
+use Rattle.diagram.proofs.Drawings.{draws_on, then_others}
 
-first_of : (xs : List Arrow) → 0 < length xs → Arrow
-first_of [] h = absurd (omega arith)
-first_of (x ∷ xs) h = x
-
--- an arrow that has its group is that of a frame that is drawn
-drawn : (s : Scene) (text : List ℕ) (k : ℕ) (arrow : Arrow) → IsArrow s.frames.now s.waiting.now s.passages.now k arrow
-    → HasGroup s.frames.now arrow text → IsDrawn s text k
-drawn s text k arrow is has = record {
-  arrow = arrow;
-  is = is;
-  group = has.group is.frame (subst (λ (n : ℕ). slice_get s.frames.now n ≡ Some is.frame) (sym (ap (λ (a : Arrow). a.frame) is.is)) is.sent);
+-- ---- the frame of an arrow
+-- of an arrow that is one of a frame it is there
+there : (s : Scene) (k : ℕ) (arrow : Arrow) → IsArrow s.frames.now s.waiting.now s.passages.now k arrow → IsThere s.frames.now arrow
+there s k arrow is = record {
+  frame = is.frame;
+  is = subst (λ (n : ℕ). slice_get s.frames.now n ≡ Some is.frame) (sym (ap (λ (a : Arrow). a.frame) is.is)) is.sent;
 }
 
-pub all_drawn : (s : Scene) (window : Window) (arrows : List Arrow) (text : List ℕ)
-    → AreArrows s.frames.now s.waiting.now s.passages.now window.first window.end arrows
-    → HaveGroups s.frames.now arrows text
-    → AreDrawn s window text
-all_drawn s window arrows text are groups = record {
-  each = λ k from below.
-      let once = are.each_once in
-      let there : k - window.first < length arrows = omega (arith, once) in
-      let some : 0 < length arrows = omega (arith, once) in
-      let d = first_of arrows some in
-      let at : window.first + (k - window.first) ≡ k = omega arith in
-      drawn s text k (slice_index_or arrows (k - window.first) d)
-      (subst (λ (n : ℕ). IsArrow s.frames.now s.waiting.now s.passages.now n (slice_index_or arrows (k - window.first) d)) at
-      (are.each (k - window.first) d there))
-      (groups (k - window.first) d there);
-}
+pub all_there : (s : Scene) (first end : ℕ) (arrows : List Arrow)
+    → AreArrows s.frames.now s.waiting.now s.passages.now first end arrows → AreThere s.frames.now arrows
+all_there s first end arrows are = record { each = λ i d below. there s (first + i) (slice_index_or arrows i d) (are.each i d below) }
 
--- what is drawn stays drawn
-drawn_still : (s : Scene) (k : ℕ) (a b : List ℕ) → Grows a b → IsDrawn s a k → IsDrawn s b k
-drawn_still s k a b grown is = record { arrow = is.arrow; is = is.is; group = has_still _ a b is.group grown }
+module _ (frames : List Envelope) (arrow : Arrow) (a b : List ℕ) where
+  -- the title is by the frame that was found
+  found_title : (f : Envelope) → slice_get frames arrow.frame ≡ Some f → Draws a (title_text arrow (facts_of f.message) ∷ []) b
+      → IsThere frames arrow → Draws a (title_in frames arrow ∷ []) b
+  found_title f at drawn there =
+      subst (λ (t : List ℕ). Draws a (t ∷ []) b) (sym (ap (λ (o : Option Envelope). title_by arrow o) at)) drawn
 
-pub all_still : (s : Scene) (window : Window) (a b : List ℕ) → Grows a b → AreDrawn s window a → AreDrawn s window b
-all_still s window a b grown all = record { each = λ k from below. drawn_still s k a b grown (all.each k from below) }
+  pub titled : {T E : Type 0} (r : Result T E) (f : Envelope) → slice_get frames arrow.frame ≡ Some f
+      → OnOk r (Draws a (title_text arrow (facts_of f.message) ∷ []) b)
+      → OnOk r (IsThere frames arrow → Draws a (title_in frames arrow ∷ []) b)
+  titled r f at drawn = on_ok_weaker r (found_title f at) drawn
 
-pub shows : {T E : Type 0} (r : Result T E) (text_of : T → List ℕ) (s : Scene) (from to : Option ℕ) (window : Window) (a b end : List ℕ)
-    → IsChosen (length s.frames.now) from to window → (IsWhole s → AreDrawn s window a) → Grows a b
-    → IfOk r (λ t. text_of t ≡ b ++ end) → IfOk r (λ t. ShowsAsked s from to (text_of t))
-shows (Ok t) text_of s from to window a b end chosen drawn grown is = record {
-  window = window;
-  chosen = chosen;
-  drawn = λ whole. all_still s window a (text_of t) (grows_on a b (text_of t) grown (grows_by b end (text_of t) is)) (drawn whole);
-}
-shows (Err e) text_of s from to window a b end chosen drawn grown is = tt
+  -- one that isn't found isn't there
+  pub not_there : slice_get frames arrow.frame ≡ None → IsThere frames arrow → Draws a (title_in frames arrow ∷ []) b
+  not_there none there = absurd (none-some there.frame (sym none ∙ there.is))
 
--- the frame of an arrow is the one that was found
-found_group : (frames : List Envelope) (arrow : Arrow) (text : List ℕ) (f : Envelope) → slice_get frames arrow.frame ≡ Some f
-    → Has (group_of arrow f.message) text → HasGroup frames arrow text
-found_group frames arrow text f at has = record {
-  group = λ g also.
-      let e : Some f ≡ Some g = sym at ∙ also in
-      let same : f ≡ g = cc in subst (λ (x : Envelope). Has (group_of arrow x.message) text) same has;
-}
+-- ---- arrow by arrow
+-- the titles of the arrows so far, and of the next one
+one_more_title : (f : Arrow → List ℕ) (arrows : List Arrow) (n : ℕ) (x : Arrow) → n < length arrows → x ≡ slice_index_or arrows n x
+    → map f (take n arrows) ++ f x ∷ [] ≡ map f (take (n + 1) arrows)
+one_more_title f arrows n x below read =
+    sym (map-append f (take n arrows) (x ∷ []))
+    ∙ ap (λ (y : Arrow). map f (take n arrows ++ y ∷ [])) read
+    ∙ ap (λ (xs : List Arrow). map f xs) (sym (take_more arrows n x below))
 
-pub has_group : {T E : Type 0} (r : Result T E) (frames : List Envelope) (arrow : Arrow) (text : List ℕ) (f : Envelope)
-    → slice_get frames arrow.frame ≡ Some f → OnOk r (Has (group_of arrow f.message) text) → OnOk r (HasGroup frames arrow text)
-has_group r frames arrow text f at has = on_ok_weaker r (found_group frames arrow text f at) has
+pub one_more_drawn : (frames : List Envelope) (arrows : List Arrow) (n : ℕ) (x : Arrow) (a b c : List ℕ)
+    → (AreThere frames arrows → Draws a (map (title_in frames) (take n arrows)) b)
+    → (IsThere frames x → Draws b (title_in frames x ∷ []) c) → n < length arrows → x ≡ slice_index_or arrows n x
+    → AreThere frames arrows → Draws a (map (title_in frames) (take (n + 1) arrows)) c
+one_more_drawn frames arrows n x a b c before now below read all =
+    let here : IsThere frames x = subst (λ (y : Arrow). IsThere frames y) (sym read) (all.each n x below) in
+    subst (λ (ts : List (List ℕ)). Draws a ts c) (one_more_title (title_in frames) arrows n x below read)
+    (draws_on (map (title_in frames) (take n arrows)) a b (title_in frames x ∷ []) c (before all) (now here))
 
-pub has_no_group : (frames : List Envelope) (arrow : Arrow) (text : List ℕ) → slice_get frames arrow.frame ≡ None
-    → HasGroup frames arrow text
-has_no_group frames arrow text none = record {
-  group = λ g also. absurd (none-some g (sym none ∙ also));
-}
+-- ---- the picture
+-- the arrows of the window stand behind other elements, and before others
+module _ (s : Scene) (from to : Option ℕ) (window : Window) (width height : ℕ) (style a b c d : List ℕ) where
+  pub drawn_whole : (text : List ℕ) → a ≡ picture_begun width height style → Draws a [] b → (IsWhole s → DrawsFrames s window b c)
+      → Draws c [] d → text ≡ d ++ picture_ended → IsWhole s → AreDrawn s window text
+  drawn_whole text begun before arrows behind is whole =
+      let shown = arrows whole in
+      let titles : List (List ℕ) = map (title_in s.frames.now) shown.arrows in record {
+        width = width;
+        height = height;
+        style = style;
+        body = d;
+        drawn = record {
+          arrows = shown.arrows;
+          are = shown.are;
+          drawn = subst (λ (t : List ℕ). Draws t titles d) begun
+              (draws_on [] a b titles d before (then_others titles b c d shown.drawn behind));
+        };
+        is = is;
+      }
 
--- what stands in a text still does when it grows
-group_still : (frames : List Envelope) (arrow : Arrow) (a b : List ℕ) → Grows a b → HasGroup frames arrow a → HasGroup frames arrow b
-group_still frames arrow a b grown has = record { group = λ g at. has_still _ a b (has.group g at) grown }
-
--- the next arrow has its group, and those before it still have theirs
-pub one_more_group : (frames : List Envelope) (arrows : List Arrow) (n : ℕ) (x : Arrow) (a b : List ℕ)
-    → ((i : ℕ) (d : Arrow) → i < n → HasGroup frames (slice_index_or arrows i d) a) → Grows a b → n < length arrows
-    → x ≡ slice_index_or arrows n x → HasGroup frames x b
-    → (i : ℕ) (d : Arrow) → i < n + 1 → HasGroup frames (slice_index_or arrows i d) b
-one_more_group frames arrows n x a b before grown below read here i d less =
-    below_more (λ (k : ℕ). (e : Arrow) → HasGroup frames (slice_index_or arrows k e) b) n
-    (λ k small e. group_still frames (slice_index_or arrows k e) a b grown (before k e small))
-    (λ e. subst (λ (y : Arrow). HasGroup frames y b) (get_or_read arrows n x below read e) here) i less d
+  pub shows : {T E : Type 0} (r : Result T E) (text_of : T → List ℕ) → IsChosen (length s.frames.now) from to window
+      → a ≡ picture_begun width height style → Draws a [] b → (IsWhole s → DrawsFrames s window b c) → Draws c [] d
+      → IfOk r (λ t. text_of t ≡ d ++ picture_ended) → IfOk r (λ t. ShowsAsked s from to (text_of t))
+  shows (Ok t) text_of chosen begun before arrows behind is = record {
+    window = window;
+    chosen = chosen;
+    drawn = λ whole. drawn_whole (text_of t) begun before arrows behind is whole;
+  }
+  shows (Err e) text_of chosen begun before arrows behind is = tt

@@ -1,2 +1,3 @@
 pub mod ArrowLists
 pub mod DrawnLemmas
+pub mod Drawings

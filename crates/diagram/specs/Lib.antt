@@ -1,4 +1,5 @@
 pub mod Arrows
 pub mod Facts
 pub mod Pictures
+pub mod Titles
 pub mod Windows

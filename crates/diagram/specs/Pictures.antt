@@ -1,11 +1,10 @@
 -- What a picture of a run shows.
-use Rattle.std.specs.Prelude.{◌≡◌, ℕ, ◌<◌, ◌≤◌, List, ◌++◌, length, slice_get, slice_index_or, codes, Option, Some}
-use Rattle.picture.specs.Elements.{opened}
-use Rattle.picture.specs.Growing.{Has}
+use Rattle.std.specs.Prelude.{◌≡◌, ℕ, ◌<◌, List, [], ◌++◌, length, map, slice_get, slice_index_or, codes, Option, Some, None}
+use Rattle.picture.specs.Elements.{picture_begun, picture_ended}
 use Rattle.wire.specs.declared.frames.envelope.Envelope.{Envelope}
-use Rattle.wire.specs.declared.frames.message.Message.{Message}
-use Rattle.diagram.specs.Arrows.{IsArrow}
+use Rattle.diagram.specs.Arrows.{AreArrows}
 use Rattle.diagram.specs.Facts.{facts_of, frame_text}
+use Rattle.diagram.specs.Titles.{Draws}
 use Rattle.diagram.specs.Windows.{IsChosen}
 use Rattle.diagram.specs.declared.arrows.Arrow.{Arrow}
 use Rattle.diagram.specs.declared.arrows.Fate.{Fate}
@@ -19,36 +18,47 @@ fate_text (Came step) = codes ", delivered"
 fate_text Dropped = codes ", dropped"
 fate_text Waits = codes ", waits"
 
--- how the group of an arrow begins: its title says what the frame is, and what became of it
-unfoldable pub titled : Arrow → Facts → List ℕ
-titled arrow facts = opened (codes "frame") (frame_text arrow.frame arrow.from arrow.to facts ++ fate_text arrow.fate)
+-- what a frame is, and what became of it
+unfoldable pub title_text : Arrow → Facts → List ℕ
+title_text arrow facts = frame_text arrow.frame arrow.from arrow.to facts ++ fate_text arrow.fate
 
-abbrev pub group_of : Arrow → Message → List ℕ
-group_of arrow m = titled arrow (facts_of m)
+abbrev pub title_by : Arrow → Option Envelope → List ℕ
+title_by arrow None = []
+title_by arrow (Some frame) = title_text arrow (facts_of frame.message)
 
--- the arrow's group is in the text, by what its frame says
-pub record HasGroup (frames : List Envelope) (arrow : Arrow) (text : List ℕ) : Type 0 where
-  pub group : (frame : Envelope) → slice_get frames arrow.frame ≡ Some frame → Has (group_of arrow frame.message) text
+-- the title of an arrow, by what its frame says
+abbrev pub title_in : List Envelope → Arrow → List ℕ
+title_in frames arrow = title_by arrow (slice_get frames arrow.frame)
 
-abbrev pub HaveGroups : List Envelope → List Arrow → List ℕ → Type 0
-HaveGroups frames arrows text = (i : ℕ) (d : Arrow) → i < length arrows → HasGroup frames (slice_index_or arrows i d) text
+-- the frame of an arrow is there
+pub record IsThere (frames : List Envelope) (arrow : Arrow) : Type 0 where
+  pub frame : Envelope
+  pub is : slice_get frames arrow.frame ≡ Some frame
 
--- frame k of the scene has its group in the text
-pub record IsDrawn (s : Scene) (text : List ℕ) (k : ℕ) : Type 0 where
-  pub arrow : Arrow
-  pub is : IsArrow s.frames.now s.waiting.now s.passages.now k arrow
-  pub group : Has (group_of arrow is.frame.message) text
+pub record AreThere (frames : List Envelope) (arrows : List Arrow) : Type 0 where
+  pub each : (i : ℕ) (d : Arrow) → i < length arrows → IsThere frames (slice_index_or arrows i d)
 
--- so has each frame of the window
+-- behind the old text a group begins for each frame of the window and for no other one, in the order of their numbers, each with its title
+pub record DrawsFrames (s : Scene) (window : Window) (old new : List ℕ) : Type 0 where
+  pub arrows : List Arrow
+  pub are : AreArrows s.frames.now s.waiting.now s.passages.now window.first window.end arrows
+  pub drawn : Draws old (map (title_in s.frames.now) arrows) new
+
+-- the text is a picture of so many units, in its style, and in it these frames are drawn, each once, and no other one
 pub record AreDrawn (s : Scene) (window : Window) (text : List ℕ) : Type 0 where
-  pub each : (k : ℕ) → window.first ≤ k → k < window.end → IsDrawn s text k
+  pub width : ℕ
+  pub height : ℕ
+  pub style : List ℕ
+  pub body : List ℕ
+  pub drawn : DrawsFrames s window (picture_begun width height style) body
+  pub is : text ≡ body ++ picture_ended
 
 -- there is a flag and a passage for each frame
 pub record IsWhole (s : Scene) : Type 0 where
   pub waiting : length s.waiting.now ≡ length s.frames.now
   pub passages : length s.passages.now ≡ length s.frames.now
 
--- each frame of a window of those that are asked for is drawn
+-- the frames of a window of those that are asked for are drawn
 pub record ShowsAsked (s : Scene) (from to : Option ℕ) (text : List ℕ) : Type 0 where
   pub window : Window
   pub chosen : IsChosen (length s.frames.now) from to window

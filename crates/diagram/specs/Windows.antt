@@ -1,5 +1,5 @@
 -- Which frames a picture shows.
-use Rattle.std.specs.Prelude.{◌≡◌, ℕ, ◌+◌, ◌-◌, ◌/◌, ◌≤◌, min, Option, Some, None}
+use Rattle.std.specs.Prelude.{◌≡◌, ℕ, ◌+◌, ◌-◌, ◌*◌, ◌/◌, ◌<◌, ◌≤◌, min, Option, Some, None}
 use Rattle.diagram.specs.declared.layout.Window.{Window}
 
 -- the first frame that is asked for: of so many frames the one of this number, or the first of all
@@ -16,13 +16,15 @@ asked_end frames (Some to) = min (to + 1) frames
 abbrev pub asked : ℕ → Option ℕ → Option ℕ → ℕ
 asked frames from to = min (asked_end frames to - asked_first frames from) 200
 
--- the window is of so many of these frames, from the first on: of all, or of an eighth at least
+-- the window is of so many of these frames, from the first on: of all, or with so many eighths left out at the end, where they don't fit
+-- a page. Of some frames it shows some
 pub record IsWindowOf (frames from most : ℕ) (window : Window) : Type 0 where
   pub first : window.first ≡ from
   pub in_order : window.first ≤ window.end
   pub there : window.end ≤ frames
-  pub few : window.end ≤ from + most
-  pub enough : from + most / 8 ≤ window.end
+  pub eighths : ℕ
+  pub not_all : eighths < 8
+  pub is : window.end ≡ from + (most - most * eighths / 8)
 
 -- of so many frames those are shown that are asked for, or the first of them
 abbrev pub IsChosen : ℕ → Option ℕ → Option ℕ → Window → Type 0

@@ -1,13 +1,17 @@
 //! The arrows of a picture, and what is told of them.
 
-ghost use Rattle.std.specs.Prelude.{◌≡◌, ◌++◌, ◌≤◌, ◌↔◌, IsTrue, OnOk, length};
-ghost use Rattle.picture.specs.Growing.{Grows, Has};
-ghost use Rattle.diagram.specs.Pictures.{AreDrawn, HasGroup, HaveGroups, IsWhole, fate_text, group_of, titled};
+#![tactic(auto, using(crate::proofs::Drawings::others_not, crate::proofs::Drawings::then_others))]
+
+ghost use Rattle.std.specs.Prelude.{◌≡◌, [], ◌∷◌, ◌++◌, ◌≤◌, ◌↔◌, IsTrue, OnOk, length, map};
+ghost use Rattle.diagram.specs.Facts.{facts_of};
+ghost use Rattle.diagram.specs.Pictures.{AreThere, DrawsFrames, IsThere, IsWhole, fate_text, title_in, title_text};
+ghost use Rattle.diagram.specs.Titles.{Draws};
 
 use super::arrows::{Arrow, Fate, list_arrows};
 use super::colors::color_of;
 use super::facts::{Facts, facts_of, kind_name, push_frame};
 use super::layout::{Layout, Window};
+use super::others;
 use super::scene::Scene;
 use super::space_time::lane;
 use super::strokes::draw_arrow;
@@ -30,8 +34,7 @@ pub(crate) fn draw_arrows(
 ) -> io::Result<()>
     requires in_order { window.first ≤ window.end }
     requires there { window.end ≤ length scene.now.frames.now }
-    ensures grows { OnOk result (Grows picture.old picture.new) }
-    ensures drawn { OnOk result (IsWhole scene.now → AreDrawn scene.now window picture.new) }
+    ensures { OnOk result (IsWhole scene.now → DrawsFrames scene.now window picture.old picture.new) }
 {
     if !reaches(scene, window.end) {
         return Ok(());
@@ -55,7 +58,6 @@ fn reaches(scene: &Scene, end: usize) -> bool
 }
 
 /// Arrows, in their order.
-#[tactic(auto, using(picture::proofs::Growth::grows_on, picture::proofs::Growth::grows_not))]
 fn draw_all(
     alloc: Global,
     picture: &mut Picture,
@@ -63,8 +65,8 @@ fn draw_all(
     arrows: &[Arrow],
     layout: &Layout,
 ) -> io::Result<()>
-    ensures grows { OnOk result (Grows picture.old picture.new) }
-    ensures groups { OnOk result (HaveGroups scene.now.frames.now arrows.now picture.new) }
+    ensures { OnOk result (AreThere scene.now.frames.now arrows.now
+        → Draws picture.old (map (title_in scene.now.frames.now) arrows.now) picture.new) }
 {
     let mut ballots = Vec::new(alloc);
     let mut free = [0; 7];
@@ -92,8 +94,8 @@ fn draw_next(
     ballots: &mut Vec<Ballot>,
     free: &mut [u32; 7],
 ) -> io::Result<()>
-    ensures grows { OnOk result (Grows picture.old picture.new) }
-    ensures group { OnOk result (HasGroup scene.now.frames.now arrow.now picture.new) }
+    ensures { OnOk result (IsThere scene.now.frames.now arrow.now
+        → Draws picture.old (title_in scene.now.frames.now arrow.now ∷ []) picture.new) }
 {
     match scene.frames.get(arrow.frame) {
         Some(frame) => draw_sent(
@@ -111,7 +113,6 @@ fn draw_next(
 }
 
 /// The arrow of this frame, and the frame's kind beside it.
-#[tactic(auto, using(picture::proofs::Growth::grows_by, picture::proofs::Growth::grows_on, picture::proofs::Growth::grows_not, picture::proofs::Growth::has_last, picture::proofs::Growth::has_still))]
 fn draw_sent(
     alloc: Global,
     picture: &mut Picture,
@@ -122,8 +123,7 @@ fn draw_sent(
     ballots: &mut Vec<Ballot>,
     free: &mut [u32; 7],
 ) -> io::Result<()>
-    ensures grows { OnOk result (Grows picture.old picture.new) }
-    ensures group { OnOk result (Has (group_of arrow.now frame.now.message) picture.new) }
+    ensures { OnOk result (Draws picture.old (title_text arrow.now (facts_of frame.now.message) ∷ []) picture.new) }
 {
     let facts = facts_of(&frame.open(alloc)?.message);
     let color = color_of(ballots, facts.ballot)?;
@@ -132,7 +132,6 @@ fn draw_sent(
 }
 
 /// The arrow of a frame, under a title that says what the frame is.
-#[tactic(auto, using(picture::proofs::Growth::grows_by, picture::proofs::Growth::grows_on, picture::proofs::Growth::grows_not, picture::proofs::Growth::has_last, picture::proofs::Growth::has_still))]
 fn draw_frame(
     alloc: Global,
     picture: &mut Picture,
@@ -142,17 +141,16 @@ fn draw_frame(
     color: usize,
     layout: &Layout,
 ) -> io::Result<()>
-    ensures grows { OnOk result (Grows picture.old picture.new) }
-    ensures titled { OnOk result (Has (titled arrow.now facts.now) picture.new) }
+    ensures { OnOk result (Draws picture.old (title_text arrow.now facts.now ∷ []) picture.new) }
 {
     open_frame(alloc, picture, arrow, facts)?;
     draw_arrow(picture, nodes, arrow, color, layout)?;
-    picture.close()
+    others::close(picture)
 }
 
 /// The group of a frame begins, with its title.
 fn open_frame(alloc: Global, picture: &mut Picture, arrow: &Arrow, facts: &Facts) -> io::Result<()>
-    ensures { OnOk result (picture.new ≡ picture.old ++ titled arrow.now facts.now) }
+    ensures { OnOk result (Draws picture.old (title_text arrow.now facts.now ∷ []) picture.new) }
 {
     let mut title = Vec::new(alloc);
     push_frame(&mut title, arrow.frame, arrow.from, arrow.to, facts)?;
@@ -161,7 +159,6 @@ fn open_frame(alloc: Global, picture: &mut Picture, arrow: &Arrow, facts: &Facts
 }
 
 /// The kind of a frame, left of the lane of its sender, where the last word there leaves room: so once for all that are sent at a step.
-#[tactic(auto, using(picture::proofs::Growth::grows_by, picture::proofs::Growth::grows_on, picture::proofs::Growth::grows_not, picture::proofs::Growth::has_last, picture::proofs::Growth::has_still))]
 fn draw_kind(
     picture: &mut Picture,
     nodes: u8,
@@ -170,7 +167,7 @@ fn draw_kind(
     layout: &Layout,
     free: &mut [u32; 7],
 ) -> io::Result<()>
-    ensures { OnOk result (Grows picture.old picture.new) }
+    ensures { OnOk result (Draws picture.old [] picture.new) }
 {
     let node = arrow.from.value();
     let y = layout.place_of(arrow.sent);
@@ -185,7 +182,7 @@ fn draw_kind(
         x: lane(nodes, node).saturating_sub(200),
         y: y.saturating_add(600),
     };
-    picture.text(b"kind", beside, kind_name(kind).as_bytes())
+    others::words(picture, b"kind", beside, kind_name(kind).as_bytes())
 }
 
 /// What became of a frame, behind what it is.

@@ -59,7 +59,7 @@ pub fn choose_window(
     fit_page(alloc, scene, first, most)
 }
 
-/// The longest window of these frames that fits a page, in steps of an eighth.
+/// The longest window of these frames that fits a page, in steps of an eighth; an eighth of them, where none fits.
 fn fit_page(alloc: Global, scene: &Scene, first: usize, most: usize) -> Result<Window, AllocError>
     requires there { first + most ≤ length scene.now.frames.now }
     requires few { most ≤ MOST_FRAMES }
@@ -77,7 +77,7 @@ fn fit_page(alloc: Global, scene: &Scene, first: usize, most: usize) -> Result<W
     }
     Ok(Window {
         first,
-        end: first + most / 8,
+        end: first + (most - most * 7 / 8),
     })
 }
 

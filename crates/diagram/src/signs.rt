@@ -1,9 +1,12 @@
 //! The signs of a picture, on the lanes of nodes.
 
-ghost use Rattle.std.specs.Prelude.{OnOk};
-ghost use Rattle.picture.specs.Growing.{Grows};
+#![tactic(auto, using(crate::proofs::Drawings::others_not, crate::proofs::Drawings::then_others))]
+
+ghost use Rattle.std.specs.Prelude.{[], OnOk};
+ghost use Rattle.diagram.specs.Titles.{Draws};
 
 use super::layout::Layout;
+use super::others;
 use super::scene::{Mark, Scene, Sign};
 use super::space_time::lane;
 use picture::{Picture, Place};
@@ -13,9 +16,8 @@ use std::io;
 const SIGNS: u32 = 3_400;
 
 /// The signs on the lanes. Several of one node at one step stand beside each other.
-#[tactic(auto, using(picture::proofs::Growth::grows_by, picture::proofs::Growth::grows_on, picture::proofs::Growth::grows_not))]
 pub(crate) fn draw_marks(picture: &mut Picture, scene: &Scene, layout: &Layout) -> io::Result<()>
-    ensures { OnOk result (Grows picture.old picture.new) }
+    ensures { OnOk result (Draws picture.old [] picture.new) }
 {
     let mut step = 0;
     let mut lanes = [0u32; 7];
@@ -39,45 +41,42 @@ pub(crate) fn draw_marks(picture: &mut Picture, scene: &Scene, layout: &Layout) 
 }
 
 /// A sign, and its note.
-#[tactic(auto, using(picture::proofs::Growth::grows_by, picture::proofs::Growth::grows_on, picture::proofs::Growth::grows_not))]
 fn draw_mark(picture: &mut Picture, mark: &Mark, at: Place) -> io::Result<()>
-    ensures { OnOk result (Grows picture.old picture.new) }
+    ensures { OnOk result (Draws picture.old [] picture.new) }
 {
-    picture.open(b"mark", mark.title.as_slice())?;
+    others::open_mark(picture, mark.title.as_slice())?;
     draw_sign(picture, mark.sign, at)?;
     let beside = Place {
         x: at.x.saturating_add(350),
         y: at.y.saturating_sub(60),
     };
-    picture.text(b"note", beside, mark.note.as_slice())?;
-    picture.close()
+    others::words(picture, b"note", beside, mark.note.as_slice())?;
+    others::close(picture)
 }
 
 /// The shape of a sign.
-#[tactic(auto, using(picture::proofs::Growth::grows_by, picture::proofs::Growth::grows_on, picture::proofs::Growth::grows_not))]
 fn draw_sign(picture: &mut Picture, sign: Sign, at: Place) -> io::Result<()>
-    ensures { OnOk result (Grows picture.old picture.new) }
+    ensures { OnOk result (Draws picture.old [] picture.new) }
 {
     match sign {
-        Sign::Learnt => picture.circle(b"sign learnt", at, 220),
-        Sign::Replied => picture.circle(b"sign replied", at, 220),
-        Sign::Answered => picture.circle(b"sign answered", at, 220),
+        Sign::Learnt => others::circle(picture, b"sign learnt", at, 220),
+        Sign::Replied => others::circle(picture, b"sign replied", at, 220),
+        Sign::Answered => others::circle(picture, b"sign answered", at, 220),
         Sign::Refused => square(picture, b"sign refused", at),
         Sign::Stopped => square(picture, b"sign stopped", at),
         Sign::Restarted => square(picture, b"sign", at),
         Sign::Restored => square(picture, b"sign restored", at),
-        Sign::Submitted | Sign::TimedOut | Sign::Other => picture.circle(b"sign", at, 150),
+        Sign::Submitted | Sign::TimedOut | Sign::Other => others::circle(picture, b"sign", at, 150),
     }
 }
 
 /// A small square around a place.
-#[tactic(auto, using(picture::proofs::Growth::grows_by, picture::proofs::Growth::grows_on, picture::proofs::Growth::grows_not))]
 fn square(picture: &mut Picture, class: &[u8], at: Place) -> io::Result<()>
-    ensures { OnOk result (Grows picture.old picture.new) }
+    ensures { OnOk result (Draws picture.old [] picture.new) }
 {
     let corner = Place {
         x: at.x.saturating_sub(200),
         y: at.y.saturating_sub(200),
     };
-    picture.rectangle(class, corner, 400, 400)
+    others::square(picture, class, corner, 400)
 }

@@ -1,10 +1,14 @@
 //! The space-time diagram: lanes, and the words beside them.
 
-ghost use Rattle.std.specs.Prelude.{IfOk};
+#![tactic(auto, using(crate::proofs::Drawings::others_not, crate::proofs::Drawings::then_others))]
+
+ghost use Rattle.std.specs.Prelude.{[], IfOk, OnOk};
 ghost use Rattle.diagram.specs.Pictures.{ShowsAsked};
+ghost use Rattle.diagram.specs.Titles.{Draws};
 
 use super::arrow_lines::draw_arrows;
 use super::layout::{Layout, Window, choose_window, lay_out};
+use super::others;
 use super::scene::Scene;
 use super::signs::draw_marks;
 use picture::{Picture, Place};
@@ -61,12 +65,9 @@ pub fn draw(
 }
 
 /// What the picture shows.
-fn draw_head(
-    alloc: Global,
-    picture: &mut Picture,
-    scene: &Scene,
-    window: Window,
-) -> io::Result<()> {
+fn draw_head(alloc: Global, picture: &mut Picture, scene: &Scene, window: Window) -> io::Result<()>
+    ensures { OnOk result (Draws picture.old [] picture.new) }
+{
     let (count, nodes) = (scene.frames.len(), scene.nodes);
     let mut text = Vec::new(alloc);
     if window.first < window.end {
@@ -78,17 +79,25 @@ fn draw_head(
     } else {
         write!(&mut text, "no frame of {count}, {nodes} nodes")?;
     }
-    picture.text(b"head", Place { x: 1_000, y: 1_400 }, text.as_slice())?;
-    picture.text(b"note", Place { x: 1_000, y: 2_400 }, MEANINGS)
+    others::words(
+        picture,
+        b"head",
+        Place { x: 1_000, y: 1_400 },
+        text.as_slice(),
+    )?;
+    others::words(picture, b"note", Place { x: 1_000, y: 2_400 }, MEANINGS)
 }
 
 /// A lane for each node, from top to bottom.
-fn draw_lanes(alloc: Global, picture: &mut Picture, nodes: u8, height: u32) -> io::Result<()> {
+fn draw_lanes(alloc: Global, picture: &mut Picture, nodes: u8, height: u32) -> io::Result<()>
+    ensures { OnOk result (Draws picture.old [] picture.new) }
+{
     for node in 0..nodes {
         let x = lane(nodes, node);
         let mut name = Vec::new(alloc);
         write!(&mut name, "node {node}")?;
-        picture.text(
+        others::words(
+            picture,
             b"head",
             Place {
                 x: x.saturating_sub(1_200),
@@ -96,7 +105,12 @@ fn draw_lanes(alloc: Global, picture: &mut Picture, nodes: u8, height: u32) -> i
             },
             name.as_slice(),
         )?;
-        picture.line(b"lane", Place { x, y: 3_800 }, Place { x, y: height })?;
+        others::line(
+            picture,
+            b"lane",
+            Place { x, y: 3_800 },
+            Place { x, y: height },
+        )?;
     }
     Ok(())
 }
@@ -108,7 +122,9 @@ pub(crate) fn lane(nodes: u8, node: u8) -> u32 {
 }
 
 /// The schedule's lines, beside the steps at which they begin.
-fn draw_labels(picture: &mut Picture, scene: &Scene, layout: &Layout) -> io::Result<()> {
+fn draw_labels(picture: &mut Picture, scene: &Scene, layout: &Layout) -> io::Result<()>
+    ensures { OnOk result (Draws picture.old [] picture.new) }
+{
     let mut last = None;
     let mut before = 0u32;
     for label in scene.labels {
@@ -121,7 +137,7 @@ fn draw_labels(picture: &mut Picture, scene: &Scene, layout: &Layout) -> io::Res
         let y = layout.text_place(label.step, before);
         if layout.place_of(label.step) > 0 {
             let text = cut(label.text.as_slice());
-            picture.text(b"line", Place { x: 1_000, y }, text)?;
+            others::words(picture, b"line", Place { x: 1_000, y }, text)?;
         }
     }
     Ok(())

@@ -1,11 +1,14 @@
 //! The line of a frame, by what became of it.
 
-ghost use Rattle.std.specs.Prelude.{OnOk};
-ghost use Rattle.picture.specs.Growing.{Grows};
+#![tactic(auto, using(crate::proofs::Drawings::others_not, crate::proofs::Drawings::then_others))]
+
+ghost use Rattle.std.specs.Prelude.{[], OnOk};
+ghost use Rattle.diagram.specs.Titles.{Draws};
 
 use super::arrows::{Arrow, Fate};
 use super::colors::{lost_class, waits_class, whole_class};
 use super::layout::Layout;
+use super::others;
 use super::space_time::lane;
 use picture::{Picture, Place};
 use std::io;
@@ -14,7 +17,6 @@ use std::io;
 const BEND: u32 = 1_000;
 
 /// The line of a frame: whole where it came, else dashed, and where it was dropped two thirds of the way.
-#[tactic(auto, using(picture::proofs::Growth::grows_by, picture::proofs::Growth::grows_on))]
 pub(crate) fn draw_arrow(
     picture: &mut Picture,
     nodes: u8,
@@ -22,7 +24,7 @@ pub(crate) fn draw_arrow(
     color: usize,
     layout: &Layout,
 ) -> io::Result<()>
-    ensures { OnOk result (Grows picture.old picture.new) }
+    ensures { OnOk result (Draws picture.old [] picture.new) }
 {
     let from = lane(nodes, arrow.from.value());
     let to = lane(nodes, arrow.to.value());
@@ -41,14 +43,14 @@ pub(crate) fn draw_arrow(
                 x: from.saturating_add(aim(from, to).saturating_mul(2)) / 3,
                 y: sent.saturating_add(300),
             };
-            picture.line(lost_class(color), begin, end)
+            others::line(picture, lost_class(color), begin, end)
         }
         Fate::Waits => {
             let end = Place {
                 x: aim(from, to),
                 y: sent.saturating_add(450),
             };
-            picture.arrow(waits_class(color), begin, end)
+            others::arrow(picture, waits_class(color), begin, end)
         }
     }
 }
@@ -63,17 +65,16 @@ fn aim(from: u32, to: u32) -> u32 {
 }
 
 /// The line of a frame that came. One to the node itself comes back to the lane.
-#[tactic(auto, using(picture::proofs::Growth::grows_by, picture::proofs::Growth::grows_on))]
 fn draw_whole(picture: &mut Picture, class: &[u8], begin: Place, end: Place) -> io::Result<()>
-    ensures { OnOk result (Grows picture.old picture.new) }
+    ensures { OnOk result (Draws picture.old [] picture.new) }
 {
     if begin.x != end.x {
-        return picture.arrow(class, begin, end);
+        return others::arrow(picture, class, begin, end);
     }
     let bend = Place {
         x: aim(begin.x, end.x),
         y: begin.y.midpoint(end.y),
     };
-    picture.line(class, begin, bend)?;
-    picture.arrow(class, bend, end)
+    others::line(picture, class, begin, bend)?;
+    others::arrow(picture, class, bend, end)
 }

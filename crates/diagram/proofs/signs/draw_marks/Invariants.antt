@@ -1,6 +1,7 @@
-use Rattle.picture.specs.Growing.{Grows}
+use Rattle.std.proofs.Common.{[]}
+use Rattle.diagram.specs.Titles.{Draws}
 use Rattle.diagram.proofs.signs.draw_marks.Given as goal
 
--- more and more is drawn
+-- no frame's group begins
 abbrev pub invariant-loop-mark : goal.invariant-loop-mark
-invariant-loop-mark l = Grows l.initial.picture l.picture
+invariant-loop-mark l = Draws l.initial.picture [] l.picture
