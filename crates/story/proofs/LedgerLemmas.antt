@@ -24,11 +24,11 @@ pub got_last : {A : Type 0} (xs : List A) (x : A) → slice_get (xs ++ x ∷ [])
 got_last [] x = refl
 got_last (z ∷ xs) x = got_last xs x
 
-one_longer : {A : Type 0} (xs : List A) (x : A) → length (xs ++ x ∷ []) ≡ suc (length xs)
+pub one_longer : {A : Type 0} (xs : List A) (x : A) → length (xs ++ x ∷ []) ≡ suc (length xs)
 one_longer [] x = refl
 one_longer (z ∷ xs) x = ap suc (one_longer xs x)
 
-counts_same : (steps : List Step) (s : Step) (k : ℕ) → k ≤ length steps → counts_before (steps ++ s ∷ []) k ≡ counts_before steps k
+pub counts_same : (steps : List Step) (s : Step) (k : ℕ) → k ≤ length steps → counts_before (steps ++ s ∷ []) k ≡ counts_before steps k
 counts_same steps s zero h = refl
 counts_same steps s (suc k) h = ap ends_or_none (same_below steps (s ∷ []) k (omega (arith, h)))
 

@@ -2,7 +2,8 @@ pub mod AccountLemmas
 pub mod FollowLemmas
 pub mod Growing
 pub mod LedgerLemmas
+pub mod LineLemmas
 pub mod NotingLemmas
 pub mod PassingLemmas
+pub mod SendingLemmas
 pub mod TellingLemmas
-pub mod Texts

@@ -41,7 +41,7 @@ module _ (steps : List Step) (s : Step) where
   ]
 
   -- one that came has come then
-  came_still : (k i : ℕ) → FirstDeliversAt steps i k → FirstDeliversAt (steps ++ s ∷ []) i k
+  pub came_still : (k i : ℕ) → FirstDeliversAt steps i k → FirstDeliversAt (steps ++ s ∷ []) i k
   came_still k i h =
       let within : i < length steps = slice_get_within steps i h.here.step h.here.is in record {
         here = delivered_still i k h.here;

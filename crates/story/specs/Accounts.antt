@@ -1,94 +1,80 @@
--- What is written of a run: a text of each entry of the list of what is told.
-use Rattle.std.specs.Prelude.{◌≡◌, ℕ, ◌<◌, ◌≤◌, List, [], ◌∷◌, ◌++◌, Bool, true, false, Option, Some, None, length, slice_get}
+-- What is written of a run: the lines of each entry of the list of what is told.
+use Rattle.std.specs.Prelude.{◌≡◌, ℕ, ◌+◌, ◌==◌, List, [], ◌∷◌, ◌++◌, Bool, Option, Some, None, length, slice_get, if◌then◌else◌}
 use Rattle.schedule.specs.declared.replay_fault.ReplayFault.{ReplayFault}
 use Rattle.world.specs.Seen.{world_of}
-use Rattle.world_model.specs.Worlds.{WorldState}
-use Rattle.world_model.specs.declared.lists.StepOutcome.{StepOutcome}
-use Rattle.world_model.specs.declared.lists.StepOutcome.TheVariants.{Done, Restored, Lost, Refused, Stopped, Round, Answered as AnsweredOutcome}
 use Rattle.story.specs.Ledgers.{TellsRun}
+use Rattle.story.specs.Lines.{AddsLines}
+use Rattle.story.specs.Saying.{count_begin, fault_begins, item_begin, line_begin, tells_item}
 use Rattle.story.specs.declared.account.Account.{Account}
+use Rattle.story.specs.declared.account.Manner.{Manner}
+use Rattle.story.specs.declared.account.Place.{Place}
 use Rattle.story.specs.declared.entries.Entry.{Entry}
-use Rattle.story.specs.declared.entries.Entry.TheVariants.{Line, Step as AStep, Frame, Outcome, Learnt, Replied, Answered}
+use Rattle.story.specs.declared.entries.Entry.TheVariants.{Line, Frame}
 use Rattle.story.specs.declared.ledger.Ledger.{Ledger}
+use Rattle.story.specs.declared.ledger.LineBegin.{LineBegin}
+use Rattle.story.specs.declared.writer.Form.{Form}
 
--- ---- what is told of an entry
--- an outcome that only counts entries tells nothing: these do
-abbrev pub tells_more : Option StepOutcome → Bool
-tells_more None = false
-tells_more (Some (Done learnt replies)) = false
-tells_more (Some AnsweredOutcome) = false
-tells_more (Some (Restored node position replies)) = true
-tells_more (Some Lost) = true
-tells_more (Some (Refused node fault)) = true
-tells_more (Some (Stopped node fault)) = true
-tells_more (Some (Round node end)) = true
+-- ---- frames that are told as a number
+-- nothing is told yet
+abbrev pub start : Place
+start = record { line = 0; first = 0; sent = 0 }
 
--- whether something came of a step by this entry
-abbrev pub tells_item : {S : Type 0} → WorldState S → Entry → Bool
-tells_item w (Line i) = false
-tells_item w (AStep i) = false
-tells_item w (Frame i) = true
-tells_item w (Outcome i) = tells_more (slice_get w.outcomes i)
-tells_item w (Learnt i) = true
-tells_item w (Replied i) = true
-tells_item w (Answered i) = true
+-- a line of the schedule begins: nothing of it is told
+abbrev pub at_line : Place → Option LineBegin → Place
+at_line place None = place
+at_line place (Some l) = record { line = l.number; first = 0; sent = 0 }
 
--- whether the entry has a text: a line and what came of a step, but frames only where they are told one by one
-abbrev pub has_text : {S : Type 0} → WorldState S → Bool → Entry → Bool
-has_text w frames (Line i) = true
-has_text w frames (AStep i) = false
-has_text w frames (Frame i) = frames
-has_text w frames (Outcome i) = tells_more (slice_get w.outcomes i)
-has_text w frames (Learnt i) = true
-has_text w frames (Replied i) = true
-has_text w frames (Answered i) = true
+-- one frame more of the line is to be told as a number
+abbrev pub and_frame : Place → ℕ → Place
+and_frame place k = record place { first = if place.sent == 0 then k else place.first; sent = place.sent + 1 }
 
--- the lists of a world have the entry
-abbrev pub IsListed : {S : Type 0} → WorldState S → Entry → Type 0
-IsListed w (Line i) = Unit {0}
-IsListed w (AStep i) = Unit {0}
-IsListed w (Frame i) = i < length w.frames
-IsListed w (Outcome i) = i < length w.outcomes
-IsListed w (Learnt i) = i < length w.learnt
-IsListed w (Replied i) = i < length w.replies
-IsListed w (Answered i) = i < length w.answers
+abbrev pub place_after : Manner → Ledger → Place → Entry → Place
+place_after m l place (Line i) = at_line place (slice_get l.lines.items i)
+place_after m l place (Frame k) = if m.frames then place else and_frame place k
+place_after m l place other = place
 
--- the ledger has the entry
-abbrev pub IsIn : Ledger → Entry → Type 0
-IsIn l (Line i) = i < length l.lines.items
-IsIn l e = IsListed (world_of l.world) e
+-- ---- the lines of a text, by what they begin with
+-- so many frames were sent, if any
+abbrev pub sent_lines : Form → Place → List (List ℕ)
+sent_lines form place = if place.sent == 0 then [] else count_begin form place.line place.sent ∷ []
 
--- ---- texts
--- there is a text, or there is none
-abbrev pub IsTextOf : Bool → List ℕ → Type 0
-IsTextOf true text = 1 ≤ length text
-IsTextOf false text = text ≡ []
+abbrev pub line_lines : Form → Option LineBegin → List (List ℕ)
+line_lines form None = []
+line_lines form (Some l) = line_begin form l.number ∷ []
 
--- so much comes behind the old text: some, or nothing
-pub record Adds (some : Bool) (old new : List ℕ) : Type 0 where
-  pub more : List ℕ
-  pub is : new ≡ old ++ more
-  pub fits : IsTextOf some more
+abbrev pub item_lines : Form → ℕ → Bool → List (List ℕ)
+item_lines form line tells = if tells then item_begin form line ∷ [] else []
 
--- a text for each of the entries, one behind another
-pub data AreWritten {S : Type 0} (w : WorldState S) (frames : Bool) : List Entry → List ℕ → Type 0 where
-  none : AreWritten w frames [] []
-  next : (es : List Entry) (e : Entry) (old new : List ℕ) → AreWritten w frames es old → Adds (has_text w frames e) old new
-      → AreWritten w frames (es ++ e ∷ []) new
+-- an entry has a line, if something came of a step by it; a frame only where frames are told one by one. Where a line of the schedule begins, the
+-- frames of the one before are told first
+abbrev pub entry_lines : Manner → Ledger → Place → Entry → List (List ℕ)
+entry_lines m l place (Line i) = sent_lines m.form place ++ line_lines m.form (slice_get l.lines.items i)
+entry_lines m l place (Frame k) = if m.frames then item_lines m.form place.line (tells_item (world_of l.world) (Frame k)) else []
+entry_lines m l place other = item_lines m.form place.line (tells_item (world_of l.world) other)
 
--- the fault with which a run ended is told at the end; where it ended with none, frames may be counted there
-abbrev pub IsEnding : Option ReplayFault → List ℕ → List ℕ → Type 0
-IsEnding None old new = (some : Bool) × Adds some old new
-IsEnding (Some fault) old new = Adds true old new
+-- the entries have their lines, one behind another; these are the frames that are still to be told
+pub data AreWritten (m : Manner) (l : Ledger) : List Entry → Place → List ℕ → Type 0 where
+  none : AreWritten m l [] start []
+  next : (es : List Entry) (e : Entry) (place : Place) (old new : List ℕ) → AreWritten m l es place old
+      → AddsLines old (entry_lines m l place e) new → AreWritten m l (es ++ e ∷ []) (place_after m l place e) new
 
--- the text has a text of each entry of the list of what is told, in order, and behind these how the run ended
-pub record IsWritten (l : Ledger) (frames : Bool) (text : List ℕ) : Type 0 where
+-- at the end the frames of the last line are told, and the fault that ended the run, if one did
+abbrev pub fault_lines : Form → Option ReplayFault → ℕ → List (List ℕ)
+fault_lines form None frames = []
+fault_lines form (Some fault) frames = fault_begins form fault frames
+
+abbrev pub end_lines : Manner → Ledger → Place → List (List ℕ)
+end_lines m l place = sent_lines m.form place ++ fault_lines m.form l.fault (length (world_of l.world).frames)
+
+-- the text has the lines of each entry of the list of what is told, in order, behind these how the run ended, and nothing else
+pub record IsWritten (l : Ledger) (m : Manner) (text : List ℕ) : Type 0 where
   pub entries : List Entry
   pub tells : TellsRun l entries
+  pub place : Place
   pub told : List ℕ
-  pub written : AreWritten (world_of l.world) frames entries told
-  pub ending : IsEnding l.fault told text
+  pub written : AreWritten m l entries place told
+  pub ending : AddsLines told (end_lines m l place) text
 
-pub record IsAccountOf (l : Ledger) (frames : Bool) (a : Account) : Type 0 where
+pub record IsAccountOf (l : Ledger) (m : Manner) (a : Account) : Type 0 where
   pub fault : a.fault ≡ l.fault
-  pub text : IsWritten l frames a.text.items
+  pub text : IsWritten l m a.text.items

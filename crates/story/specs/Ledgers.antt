@@ -8,7 +8,7 @@ use Rattle.story.specs.declared.ledger.Ledger.{Ledger}
 use Rattle.story.specs.declared.entries.Entry.{Entry}
 use Rattle.story.specs.Telling.{Tells}
 use Rattle.story.specs.Counted.{AreWithin, BeginInOrder, NeverFall, counts_before}
-use Rattle.story.specs.Passing.{ArePassages}
+use Rattle.story.specs.Passing.{ArePassages, AreSent}
 
 -- how long the lists of a world are
 abbrev pub counts_of : {S : Type 0} → WorldState S → Counts
@@ -31,13 +31,14 @@ pub record AreSearched (waiting : List Bool) (frames lowest : ℕ) : Type 0 wher
   pub one_each : length waiting ≡ frames
 
 -- lines begin in order, and no list gets shorter; nothing is counted that isn't there, and each frame that was counted has its passage,
--- which says when it came
+-- which says when it was sent and came
 pub record IsKept (l : Ledger) : Type 0 where
   pub lines : BeginInOrder l.lines.items (length l.steps.items)
   pub counts : NeverFall l.steps.items
   pub within : AreWithin (counted l) (counts_of (world_of l.world))
   pub passages : length l.passages.items ≡ (counted l).frames
   pub came : ArePassages l.steps.items l.passages.items
+  pub sent : AreSent l.steps.items l.passages.items
   pub searched : AreSearched (world_of l.world).waiting (length (world_of l.world).frames) l.lowest
 
 -- and all is counted that is there; there is a flag for each frame, too
@@ -47,6 +48,7 @@ pub record IsComplete (l : Ledger) : Type 0 where
   pub ends : counted l ≡ counts_of (world_of l.world)
   pub passages : length l.passages.items ≡ length (world_of l.world).frames
   pub came : ArePassages l.steps.items l.passages.items
+  pub sent : AreSent l.steps.items l.passages.items
   pub waiting : length (world_of l.world).waiting ≡ length (world_of l.world).frames
 
 -- a run stands where it stood: its lines, its fault and its world are the same
@@ -55,9 +57,10 @@ pub record StandsStill (old new : Ledger) : Type 0 where
   pub fault : new.fault ≡ old.fault
   pub world : world_of new.world ≡ world_of old.world
 
--- the entries tell of each line and each step of the run, and of each entry of the world's lists, once and in order
+-- the entries tell of each line and each step of the run, and of each entry of the world's lists, once and in order, each at the step it came
+-- of
 pub record TellsRun (l : Ledger) (es : List Entry) : Type 0 where
-  pub tells : Tells l.lines.items l.steps.items es (record {
+  pub tells : Tells l.lines.items l.steps.items (world_of l.world).outcomes es (record {
     lines = length l.lines.items;
     steps = length l.steps.items;
     counts = counts_of (world_of l.world);

@@ -2,7 +2,9 @@ pub mod Accounts
 pub mod Counted
 pub mod Following
 pub mod Ledgers
+pub mod Lines
 pub mod Noting
 pub mod Passing
+pub mod Saying
 pub mod Sketches
 pub mod Telling

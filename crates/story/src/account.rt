@@ -1,11 +1,12 @@
 //! A run as text.
 
-ghost use Rattle.std.specs.Prelude.{◌<◌, IfErr, IfOk, OnOk, length, true};
-ghost use Rattle.picture.specs.Growing.{Grows};
+ghost use Rattle.std.specs.Prelude.{◌≡◌, ◌+◌, ◌++◌, ◌<◌, ◌^◌, IfErr, IfOk, OnOk, slice_get};
 ghost use Rattle.world.specs.Seen.{world_of};
-ghost use Rattle.story.specs.Accounts.{Adds, IsAccountOf, IsEnding, IsIn, IsListed, IsWritten, has_text, tells_item};
+ghost use Rattle.story.specs.Accounts.{IsAccountOf, IsWritten, and_frame, at_line, end_lines, entry_lines, item_lines, line_lines, place_after, sent_lines};
 ghost use Rattle.story.specs.Following.{IsRunOf, IsUntold};
 ghost use Rattle.story.specs.Ledgers.{IsComplete};
+ghost use Rattle.story.specs.Lines.{AddsLines};
+ghost use Rattle.story.specs.Saying.{tells_item};
 ghost use Rattle.story.specs.declared.ledger.Ledger.{Ledger as ALedger};
 
 use super::course::follow;
@@ -14,7 +15,7 @@ use super::items::item_of;
 use super::ledger::{Ledger, ends_at};
 use super::line_texts::{split_lines, text_of};
 use super::ranges::list_ranges;
-use super::writer::{Form, Writer};
+use super::writer::{Form, tell_count, tell_fault, tell_item, tell_line};
 use events::WorldFault;
 use schedule::ReplayFault;
 use stable::{MemStable, Scripted, Stable};
@@ -35,31 +36,54 @@ pub struct Account {
 pub fn tell(alloc: Global, bytes: &[u8], form: Form, frames: bool) -> Result<Account, ReplayFault>
     ensures told { IfOk result (λ account. (ledger : ALedger)
         × IsRunOf (⟦<Scripted<MemStable> as Stable>⟧) bytes.now ledger.lines.items ledger.steps.items ledger.fault (world_of ledger.world)
-        × IsAccountOf ledger frames account) }
+        × IsAccountOf ledger (record { form = form; frames = frames }) account) }
     ensures untold { IfErr result (IsUntold bytes.now) }
 {
     let ledger = follow(alloc, bytes)?;
     let fault = ledger.fault;
-    match tell_run(alloc, bytes, &ledger, form, frames) {
+    match tell_run(alloc, bytes, &ledger, Manner { form, frames }) {
         Ok(text) => Ok(Account { text, fault }),
         Err(_) => Err(ends_at(1, WorldFault::Memory)),
     }
 }
 
+/// How a run is told: in which form, and whether frames are told one by one.
+#[derive(Clone, Copy)]
+pub(crate) struct Manner {
+    pub form: Form,
+    pub frames: bool,
+}
+
+/// How far a run is told: the number of the line, and how many frames of it wait to be told of as a number, from the first of them on.
+#[derive(Clone, Copy)]
+pub(crate) struct Place {
+    pub line: u64,
+    pub first: usize,
+    pub sent: usize,
+}
+
+impl Place {
+    /// One frame more is to be told of as a number.
+    fn and_frame(self, number: usize) -> Place
+        requires { self.sent + 1 < 2 ^ 64 }
+        ensures { result ≡ and_frame self number }
+    {
+        Place {
+            line: self.line,
+            first: if self.sent == 0 { number } else { self.first },
+            sent: self.sent + 1,
+        }
+    }
+}
+
 /// Writes all that is told of a run: each line of the schedule, what came of it, and how the run ended.
-fn tell_run(
-    alloc: Global,
-    bytes: &[u8],
-    ledger: &Ledger,
-    form: Form,
-    frames: bool,
-) -> io::Result<Vec<u8>>
+fn tell_run(alloc: Global, bytes: &[u8], ledger: &Ledger, manner: Manner) -> io::Result<Vec<u8>>
     requires { IsComplete ledger.now }
-    ensures { IfOk result (λ text. IsWritten ledger.now frames text.items) }
+    ensures { IfOk result (λ text. IsWritten ledger.now manner text.items) }
 {
     let entries = list_run(alloc, ledger)?;
     let texts = split_lines(alloc, bytes)?;
-    let mut writer = Writer::new(alloc, form);
+    let mut text = Vec::new(alloc);
     let mut place = Place {
         line: 0,
         first: 0,
@@ -71,88 +95,73 @@ fn tell_run(
             alloc,
             ledger,
             texts.as_slice(),
-            frames,
+            manner,
             place,
             entry,
-            &mut writer,
+            &mut text,
         )?;
     }
-    tell_end(alloc, ledger, place, &mut writer)?;
-    Ok(writer.finish())
+    tell_end(alloc, ledger, manner, place, &mut text)?;
+    Ok(text)
 }
 
-/// How far a run is told: the number of the line, and how many frames of it wait to be told of as a number, from the first of them on.
-#[derive(Clone, Copy)]
-struct Place {
-    line: u64,
-    first: usize,
-    sent: usize,
-}
-
-impl Place {
-    /// One frame more is told of as a number.
-    fn after_frame(self, number: usize) -> Place {
-        Place {
-            line: self.line,
-            first: if self.sent == 0 { number } else { self.first },
-            sent: self.sent.saturating_add(1),
-        }
-    }
-}
-
-/// Writes the next entry, or counts it where it is a frame that isn't told by itself.
-#[tactic(auto, using(picture::proofs::Growth::grows_not, crate::proofs::Texts::adds_behind, crate::proofs::Texts::adds_grows, crate::proofs::Texts::adds_not))]
+/// Tells the next entry, or counts it where it is a frame that isn't told by itself.
 fn tell_next(
     alloc: Global,
     ledger: &Ledger,
     texts: &[&str],
-    frames: bool,
+    manner: Manner,
     place: Place,
     entry: Entry,
-    writer: &mut Writer,
+    text: &mut Vec<u8>,
 ) -> io::Result<Place>
-    ensures { OnOk result (IsIn ledger.now entry
-        → Adds (has_text (world_of ledger.now.world) frames entry) writer.old.text.items writer.new.text.items) }
+    requires { place.sent + 1 < 2 ^ 64 }
+    ensures lines { OnOk result (AddsLines text.old.items (entry_lines manner ledger.now place entry) text.new.items) }
+    ensures place { IfOk result (λ after. after ≡ place_after manner ledger.now place entry) }
 {
     match entry {
-        Entry::Line(index) => begin_line(ledger, texts, place, index, writer),
+        Entry::Line(index) => begin_line(alloc, ledger, texts, manner.form, place, index, text),
         Entry::Frame(number) => {
-            if frames {
-                tell_entry(alloc, ledger, place, entry, writer)
+            if manner.frames {
+                tell_entry(alloc, ledger, manner.form, place, entry, text)
             } else {
-                Ok(place.after_frame(number))
+                Ok(place.and_frame(number))
             }
         }
         Entry::Step(_)
         | Entry::Outcome(_)
         | Entry::Learnt(_)
         | Entry::Replied(_)
-        | Entry::Answered(_) => tell_entry(alloc, ledger, place, entry, writer),
+        | Entry::Answered(_) => tell_entry(alloc, ledger, manner.form, place, entry, text),
     }
 }
 
-/// Ends the line before, and writes a line of the schedule.
-#[tactic(auto, using(picture::proofs::Growth::grows_not, crate::proofs::Texts::adds_behind, crate::proofs::Texts::adds_grows, crate::proofs::Texts::adds_not))]
+/// Ends the line before, and tells a line of the schedule.
+#[tactic(auto, using(crate::proofs::LineLemmas::lines_on))]
 fn begin_line(
+    alloc: Global,
     ledger: &Ledger,
     texts: &[&str],
+    form: Form,
     place: Place,
     index: usize,
-    writer: &mut Writer,
+    text: &mut Vec<u8>,
 ) -> io::Result<Place>
-    ensures { OnOk result (index < length ledger.now.lines.items → Adds true writer.old.text.items writer.new.text.items) }
+    ensures lines { OnOk result (AddsLines text.old.items
+        (sent_lines form place ++ line_lines form (slice_get ledger.now.lines.items index)) text.new.items) }
+    ensures place { IfOk result (λ after. after ≡ at_line place (slice_get ledger.now.lines.items index)) }
 {
-    tell_sent(place, writer)?;
+    tell_sent(alloc, form, place, text)?;
     let Some(begin) = ledger.lines.get(index) else {
         return Ok(place);
     };
     let line = begin.number;
     // Whatever parses has the line.
-    let text = match text_of(texts, line) {
-        Some(text) => text,
+    let said = match text_of(texts, line) {
+        Some(said) => said,
         None => "",
     };
-    writer.line(line, text)?;
+    tell_line(alloc, form, text, line, said)?;
     Ok(Place {
         line,
         first: 0,
@@ -161,33 +170,35 @@ fn begin_line(
 }
 
 /// Tells how many frames were sent at a line, where they aren't told one by one.
-#[tactic(auto, using(picture::proofs::Growth::grows_not, crate::proofs::Texts::adds_behind, crate::proofs::Texts::adds_grows, crate::proofs::Texts::adds_not))]
-fn tell_sent(place: Place, writer: &mut Writer) -> io::Result<()>
-    ensures { OnOk result (Grows writer.old.text.items writer.new.text.items) }
+#[tactic(auto, using(crate::proofs::AccountLemmas::none_sent, crate::proofs::AccountLemmas::some_sent))]
+fn tell_sent(alloc: Global, form: Form, place: Place, text: &mut Vec<u8>) -> io::Result<()>
+    ensures { OnOk result (AddsLines text.old.items (sent_lines form place) text.new.items) }
 {
     let Place { line, first, sent } = place;
     if sent == 0 {
         return Ok(());
     }
-    writer.count(line, first, sent)
+    tell_count(alloc, form, text, line, first, sent)
 }
 
-/// Writes what an entry tells.
-#[tactic(auto, using(picture::proofs::Growth::grows_not, crate::proofs::Texts::adds_behind, crate::proofs::Texts::adds_grows, crate::proofs::Texts::adds_not))]
+/// Tells what came of a step by an entry, if something did.
+#[tactic(auto, using(crate::proofs::AccountLemmas::item_told, crate::proofs::AccountLemmas::no_item))]
 fn tell_entry(
     alloc: Global,
     ledger: &Ledger,
+    form: Form,
     place: Place,
     entry: Entry,
-    writer: &mut Writer,
+    text: &mut Vec<u8>,
 ) -> io::Result<Place>
-    ensures { OnOk result (IsListed (world_of ledger.now.world) entry
-        → Adds (tells_item (world_of ledger.now.world) entry) writer.old.text.items writer.new.text.items) }
+    ensures lines { OnOk result (AddsLines text.old.items
+        (item_lines form place.line (tells_item (world_of ledger.now.world) entry)) text.new.items) }
+    ensures place { IfOk result (λ after. after ≡ place) }
 {
     match item_of(alloc, &ledger.world, entry) {
         Ok(item) => match item {
             Some(item) => {
-                writer.item(place.line, &item)?;
+                tell_item(alloc, form, text, place.line, &item)?;
                 Ok(place)
             }
             None => Ok(place),
@@ -196,16 +207,23 @@ fn tell_entry(
     }
 }
 
-/// Writes how many frames of the last line are not told yet, and the fault with which the run ended, if it did.
-#[tactic(auto, using(crate::proofs::Texts::adds_behind, crate::proofs::Texts::grows_adds))]
-fn tell_end(alloc: Global, ledger: &Ledger, place: Place, writer: &mut Writer) -> io::Result<()>
-    ensures { OnOk result (IsEnding ledger.now.fault writer.old.text.items writer.new.text.items) }
+/// Tells how many frames of the last line are not told yet, and the fault with which the run ended, if it did.
+#[tactic(auto, using(crate::proofs::LineLemmas::lines_on))]
+fn tell_end(
+    alloc: Global,
+    ledger: &Ledger,
+    manner: Manner,
+    place: Place,
+    text: &mut Vec<u8>,
+) -> io::Result<()>
+    ensures { OnOk result (AddsLines text.old.items (end_lines manner ledger.now place) text.new.items) }
 {
-    tell_sent(place, writer)?;
+    tell_sent(alloc, manner.form, place, text)?;
     match ledger.fault {
         Some(fault) => {
             let waiting = list_ranges(alloc, ledger.world.waiting())?;
-            writer.fault(fault, ledger.world.frames().len(), waiting.as_slice())
+            let count = ledger.world.frames().len();
+            tell_fault(alloc, manner.form, text, fault, count, waiting.as_slice())
         }
         None => Ok(()),
     }

@@ -1,9 +1,11 @@
 //! The list of what is told.
 
-ghost use Rattle.std.specs.Prelude.{◌≡◌, ◌≤◌, ◌+◌, length, IfOk, OnOk};
+ghost use Rattle.std.specs.Prelude.{◌≡◌, ◌≤◌, ◌+◌, length, min, slice_get, IfOk, OnOk};
+ghost use Rattle.std.specs.Option.{option_map_or};
 ghost use Rattle.story.specs.Counted.{AreWithin, BeginInOrder, NeverFall};
 ghost use Rattle.story.specs.Ledgers.{IsComplete, TellsRun};
-ghost use Rattle.story.specs.Telling.{GoesOn, GoesOnBy, IsBegun, IsUpToDate, TellsAll};
+ghost use Rattle.story.specs.Telling.{Follow, FollowByKind, FollowStep, GoesOn, IsBegun, IsUpToDate, TellsAll, counts_by};
+ghost use Rattle.world_model.specs.Tallies.{answers_told, learnt_told, replies_told};
 
 use super::ledger::{Counts, Ledger, LineBegin, Step};
 use std::alloc::{AllocError, Global};
@@ -61,7 +63,7 @@ fn list_entries(
 ) -> Result<Vec<Entry>, AllocError>
     requires lines { BeginInOrder lines.now (length steps.now) }
     requires counts { NeverFall steps.now }
-    ensures { IfOk result (λ entries. TellsAll lines.now steps.now entries.items) }
+    ensures { IfOk result (λ entries. TellsAll lines.now steps.now outcomes.now entries.items) }
 {
     let mut listing = begin(alloc);
     for (index, line) in lines.iter().enumerate() {
@@ -109,7 +111,7 @@ impl Listing {
         requires behind { self.old.told.steps ≤ end }
         requires counts { NeverFall steps.now }
         requires up_to_date { IsUpToDate steps.now self.old.told }
-        ensures goes_on { OnOk result (GoesOnBy steps.now self.old self.new) }
+        ensures goes_on { OnOk result (GoesOn steps.now outcomes.now self.old self.new) }
         ensures steps { OnOk result (self.new.told.steps ≡ end) }
         ensures lines { OnOk result (self.new.told.lines ≡ self.old.told.lines) }
         ensures up_to_date { OnOk result (IsUpToDate steps.now self.new.told) }
@@ -125,46 +127,60 @@ impl Listing {
     /// Lists what came of a step, behind which the lists are so long.
     fn list_outcomes(&mut self, outcomes: &[StepOutcome], ends: Counts) -> Result<(), AllocError>
         requires { AreWithin self.old.told.counts ends }
-        ensures goes_on { OnOk result (GoesOn self.old self.new) }
+        ensures entries { OnOk result
+            (FollowStep outcomes.now self.old.told.counts ends self.old.entries.items self.new.entries.items) }
         ensures told { OnOk result (self.new.told ≡ record self.old.told { counts = ends }) }
     {
         self.list_frames(ends.frames)?;
         for index in self.told.counts.outcomes..ends.outcomes {
             self.entries.push(Entry::Outcome(index))?;
             self.told.counts.outcomes = index + 1;
-            self.list_told_by(outcomes.get(index), ends)?;
+            self.list_told_by(outcome_at(outcomes, index), ends)?;
         }
-        self.list_learnt(ends.learnt)?;
-        self.list_replies(ends.replies)?;
-        self.list_answers(ends.answers)
+        self.list_by_kind(ends)
     }
 
     /// Lists what an outcome tells of.
-    fn list_told_by(
-        &mut self,
-        outcome: Option<&StepOutcome>,
-        ends: Counts,
-    ) -> Result<(), AllocError>
+    fn list_told_by(&mut self, outcome: Option<StepOutcome>, ends: Counts) -> Result<(), AllocError>
         requires { AreWithin self.old.told.counts ends }
-        ensures goes_on { OnOk result (GoesOn self.old self.new) }
+        ensures entries { OnOk result
+            (FollowByKind self.old.told.counts (counts_by ends outcome self.old.told.counts) self.old.entries.items self.new.entries.items) }
         ensures within { OnOk result (AreWithin self.new.told.counts ends) }
+        ensures told { OnOk result (self.new.told
+            ≡ record self.old.told { counts = counts_by ends outcome self.old.told.counts }) }
+    {
+        let (learnt, replies, answers) = count_told(outcome);
+        let told = self.told.counts;
+        self.list_by_kind(Counts {
+            frames: told.frames,
+            learnt: reach(told.learnt, learnt, ends.learnt),
+            replies: reach(told.replies, replies, ends.replies),
+            answers: reach(told.answers, answers, ends.answers),
+            outcomes: told.outcomes,
+        })
+    }
+
+    /// Lists what was learnt, then replies, then answers, up to so many.
+    fn list_by_kind(&mut self, ends: Counts) -> Result<(), AllocError>
+        requires learnt { self.old.told.counts.learnt ≤ ends.learnt }
+        requires replies { self.old.told.counts.replies ≤ ends.replies }
+        requires answers { self.old.told.counts.answers ≤ ends.answers }
+        ensures entries { OnOk result (FollowByKind self.old.told.counts ends self.old.entries.items self.new.entries.items) }
         ensures told { OnOk result (self.new.told ≡ record self.old.told {
-          counts = record self.new.told.counts {
+          counts = record ends {
             frames = self.old.told.counts.frames;
             outcomes = self.old.told.counts.outcomes;
           };
         }) }
     {
-        let (learnt, replies, answers) = count_told(outcome);
-        let told = self.told.counts;
-        self.list_learnt(reach(told.learnt, learnt, ends.learnt))?;
-        self.list_replies(reach(told.replies, replies, ends.replies))?;
-        self.list_answers(reach(told.answers, answers, ends.answers))
+        self.list_learnt(ends.learnt)?;
+        self.list_replies(ends.replies)?;
+        self.list_answers(ends.answers)
     }
 
     fn list_frames(&mut self, end: usize) -> Result<(), AllocError>
         requires { self.old.told.counts.frames ≤ end }
-        ensures goes_on { OnOk result (GoesOn self.old self.new) }
+        ensures entries { OnOk result (Follow Entry.Frame self.old.told.counts.frames end self.old.entries.items self.new.entries.items) }
         ensures told { OnOk result (self.new.told
             ≡ record self.old.told { counts = record self.old.told.counts { frames = end } }) }
     {
@@ -177,7 +193,7 @@ impl Listing {
 
     fn list_learnt(&mut self, end: usize) -> Result<(), AllocError>
         requires { self.old.told.counts.learnt ≤ end }
-        ensures goes_on { OnOk result (GoesOn self.old self.new) }
+        ensures entries { OnOk result (Follow Entry.Learnt self.old.told.counts.learnt end self.old.entries.items self.new.entries.items) }
         ensures told { OnOk result (self.new.told
             ≡ record self.old.told { counts = record self.old.told.counts { learnt = end } }) }
     {
@@ -190,7 +206,7 @@ impl Listing {
 
     fn list_replies(&mut self, end: usize) -> Result<(), AllocError>
         requires { self.old.told.counts.replies ≤ end }
-        ensures goes_on { OnOk result (GoesOn self.old self.new) }
+        ensures entries { OnOk result (Follow Entry.Replied self.old.told.counts.replies end self.old.entries.items self.new.entries.items) }
         ensures told { OnOk result (self.new.told
             ≡ record self.old.told { counts = record self.old.told.counts { replies = end } }) }
     {
@@ -203,7 +219,7 @@ impl Listing {
 
     fn list_answers(&mut self, end: usize) -> Result<(), AllocError>
         requires { self.old.told.counts.answers ≤ end }
-        ensures goes_on { OnOk result (GoesOn self.old self.new) }
+        ensures entries { OnOk result (Follow Entry.Answered self.old.told.counts.answers end self.old.entries.items self.new.entries.items) }
         ensures told { OnOk result (self.new.told
             ≡ record self.old.told { counts = record self.old.told.counts { answers = end } }) }
     {
@@ -215,20 +231,28 @@ impl Listing {
     }
 }
 
+fn outcome_at(outcomes: &[StepOutcome], index: usize) -> Option<StepOutcome>
+    ensures { result ≡ slice_get outcomes.now index }
+{
+    outcomes.get(index).copied()
+}
+
 /// So many more than were told, and no more than there are.
 fn reach(told: usize, more: u32, end: usize) -> usize
-    requires { told ≤ end }
-    ensures behind { told ≤ result }
-    ensures within { result ≤ end }
+    ensures { result ≡ min (told + more) end }
 {
     told.saturating_add(more as usize).min(end)
 }
 
 /// How many learnt slots, replies and answers an outcome tells of.
-fn count_told(outcome: Option<&StepOutcome>) -> (u32, u32, u32) {
+fn count_told(outcome: Option<StepOutcome>) -> (u32, u32, u32)
+    ensures learnt { result.0 ≡ option_map_or learnt_told outcome 0 }
+    ensures replies { result.1 ≡ option_map_or replies_told outcome 0 }
+    ensures answers { result.2 ≡ option_map_or answers_told outcome 0 }
+{
     match outcome {
-        Some(StepOutcome::Done { learnt, replies }) => (*learnt, *replies, 0),
-        Some(StepOutcome::Restored { replies, .. }) => (0, *replies, 0),
+        Some(StepOutcome::Done { learnt, replies }) => (learnt, replies, 0),
+        Some(StepOutcome::Restored { replies, .. }) => (0, replies, 0),
         Some(StepOutcome::Answered) => (0, 0, 1),
         _ => (0, 0, 0),
     }

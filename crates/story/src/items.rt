@@ -1,9 +1,9 @@
 //! What is told of a run, entry by entry.
 
-ghost use Rattle.std.specs.Prelude.{◌≡◌, ◌<◌, IfOk, OnOk, is_some, length, slice_get, true};
+ghost use Rattle.std.specs.Prelude.{◌≡◌, IfOk, OnOk, is_some, slice_get};
 ghost use Rattle.picture.specs.Growing.{Grows};
 ghost use Rattle.world.specs.Seen.{world_of};
-ghost use Rattle.story.specs.Accounts.{IsListed, tells_item, tells_more};
+ghost use Rattle.story.specs.Saying.{tells_item, tells_more};
 
 use super::entries::Entry;
 use diagram::{Facts, facts_of};
@@ -42,8 +42,7 @@ pub(crate) fn item_of<'a>(
     world: &'a World<MemStable>,
     entry: Entry,
 ) -> Result<Option<Item<'a>>, AllocError>
-    ensures { IfOk result (λ item. IsListed (world_of world.now) entry
-        → is_some item ≡ tells_item (world_of world.now) entry) }
+    ensures { IfOk result (λ item. is_some item ≡ tells_item (world_of world.now) entry) }
 {
     match entry {
         Entry::Line(_) | Entry::Step(_) => Ok(None),
@@ -70,7 +69,7 @@ fn sent_item<'a>(
     frames: &[Frame],
     number: usize,
 ) -> Result<Option<Item<'a>>, AllocError>
-    ensures { IfOk result (λ item. number < length frames.now → is_some item ≡ true) }
+    ensures { IfOk result (λ item. is_some item ≡ is_some (slice_get frames.now number)) }
 {
     let Some(frame) = frames.get(number) else {
         return Ok(None);

@@ -4,7 +4,7 @@ ghost use Rattle.std.specs.Prelude.{◌≡◌, ◌<◌, ◌≤◌, ◌++◌, ◌
 ghost use Rattle.schedule.specs.Causes.{memory};
 ghost use Rattle.story.specs.Ledgers.{IsComplete, IsKept, StandsStill, counts_of};
 ghost use Rattle.story.specs.Noting.{FrameIsNoted, NotesRound, step_of};
-ghost use Rattle.story.specs.Passing.{DeliversOneOf};
+ghost use Rattle.story.specs.Passing.{DeliversOneOf, MadeFrom};
 ghost use Rattle.world.specs.Seen.{world_of};
 ghost use Rattle.world_model.specs.Flushing.{IsStart};
 ghost use Rattle.world_model.specs.Waiting.{IsLowestWaiting, NoneWaits};
@@ -164,6 +164,7 @@ impl Ledger {
     ) -> Result<(), ReplayFault>
         requires kept { IsKept self.old }
         requires within { first ≤ length (world_of self.old.world).frames }
+        requires made { MadeFrom self.old.steps.items first (length (world_of self.old.world).frames) }
         ensures kept { OnOk result (IsKept self.new) }
         ensures still { OnOk result (StandsStill self.old self.new) }
         ensures noted { OnOk result (NotesRound (world_of self.old.world) first (length (world_of self.old.world).frames)
@@ -178,12 +179,7 @@ impl Ledger {
             return Err(ends_at(line, WorldFault::Memory));
         };
         let quorum = usize::from(self.world.count()) / 2 + 1;
-        send_late(
-            frames.as_slice(),
-            self.passages.as_mut_slice(),
-            first,
-            quorum,
-        );
+        send_late(frames.as_slice(), &mut self.passages, first, quorum);
         Ok(())
     }
 

@@ -2,7 +2,8 @@
 //!
 //! `follow` does the lines, and notes of each with which step it begins and what was done at its steps, as `specs/Following.antt` defines,
 //! and how long the world's lists were then. `list_run` lists what is told of that: each line, each step and each entry of the world's
-//! lists, once and in order, as `specs/Telling.antt` defines. `tell` and `draw` walk that list.
+//! lists, once and in order, as `specs/Telling.antt` defines. `tell` and `draw` walk that list; of each thing `tell` writes one line, as
+//! `specs/Accounts.antt` defines.
 #![tactic(auto)]
 
 mod account;
@@ -13,6 +14,7 @@ mod flags;
 mod items;
 mod ledger;
 mod line_texts;
+mod lines;
 mod objects;
 mod passages;
 mod ranges;

@@ -1,7 +1,7 @@
 //! When each frame was sent, and when it came.
 
-ghost use Rattle.std.specs.Prelude.{◌≡◌, ◌≤◌, ◌<◌, length, not, slice_get, vec_len, OnOk, Some};
-ghost use Rattle.story.specs.Passing.{DeliversOneOf, NotesComing, SameComings};
+ghost use Rattle.std.specs.Prelude.{◌≡◌, ◌≤◌, ◌<◌, length, not, slice_get, vec_len, IfSome, OnOk, Some};
+ghost use Rattle.story.specs.Passing.{DeliversOneOf, HearsIn, IsLater, NotesComing, NotesSending, SameComings, StillSent, came_in};
 
 use super::deeds::Deed;
 use diagram::Passage;
@@ -17,12 +17,29 @@ pub(crate) fn is_over(waiting: &[bool], index: usize) -> bool
 }
 
 /// A frame of a round was sent when its sender had heard what it answers, or the promise that made so many.
-pub(crate) fn send_late(frames: &[Envelope], passages: &mut [Passage], first: usize, quorum: usize)
-    ensures { SameComings passages.old passages.new }
+pub(crate) fn send_late(
+    frames: &[Envelope],
+    passages: &mut Vec<Passage>,
+    first: usize,
+    quorum: usize,
+)
+    ensures count { length passages.new.items ≡ length passages.old.items }
+    ensures came { SameComings passages.old.items passages.new.items }
+    ensures sent { StillSent first passages.old.items passages.new.items }
 {
-    for index in 0..frames.len() {
-        let sent = heard_before(frames, passages, first, index, quorum);
-        delay(passages, first.saturating_add(index), sent);
+    send_each_late(frames, passages.as_mut_slice(), first, quorum);
+}
+
+/// Each of the frames was sent when its sender had heard what it answers.
+fn send_each_late(frames: &[Envelope], passages: &mut [Passage], first: usize, quorum: usize)
+    ensures came { SameComings passages.old passages.new }
+    ensures sent { StillSent first passages.old passages.new }
+{
+    for number in first..first.saturating_add(frames.len()) {
+        match heard_before(frames, passages, first, number, quorum) {
+            Some(heard) => delay(passages, first, number, heard),
+            None => {}
+        }
     }
 }
 
@@ -41,33 +58,55 @@ pub(crate) fn open_frames(
     Ok(opened)
 }
 
-/// A frame was sent no sooner than at this step.
-fn delay(passages: &mut [Passage], index: usize, sent: usize)
-    ensures { SameComings passages.old passages.new }
+/// A frame was sent no sooner than at the step at which its sender heard what it answers.
+fn delay(passages: &mut [Passage], first: usize, number: usize, heard: usize)
+    requires { HearsIn first passages.old number heard }
+    ensures came { SameComings passages.old passages.new }
+    ensures sent { StillSent first passages.old passages.new }
 {
-    if index < passages.len() {
-        passages[index].sent = passages[index].sent.max(sent);
+    if number < passages.len() {
+        passages[number].sent = later(&passages[number], heard);
     }
 }
 
-/// The step at which the sender of a frame of a round heard what it answers: of so many frames the last one, of which the first has the
-/// number `first` in the run. 0 where it answers none.
+/// The step at which a frame was sent: the one that is noted, or a later one, at which its sender heard what it answers. None is sent
+/// behind the step at which it came.
+fn later(passage: &Passage, heard: usize) -> usize
+    ensures { IsLater passage.now heard result }
+{
+    let is_late = match passage.came {
+        Some(came) => heard <= came,
+        None => true,
+    };
+    if is_late && passage.sent < heard {
+        heard
+    } else {
+        passage.sent
+    }
+}
+
+/// The step at which the sender of a frame of a round heard what it answers: of so many frames the last one. The frames are those from
+/// the number `first` on.
 fn heard_before(
     frames: &[Envelope],
     passages: &[Passage],
     first: usize,
-    index: usize,
+    number: usize,
     quorum: usize,
-) -> usize {
-    let mut heard = 0;
+) -> Option<usize>
+    ensures { IfSome result (HearsIn first passages.now number) }
+{
+    let Some(frame) = frames.get(number.saturating_sub(first)) else {
+        return None;
+    };
+    let mut heard = None;
     let mut count: usize = 0;
-    if let Some(frame) = frames.get(index) {
-        for before in 0..index {
-            let came = came_at(passages, first.saturating_add(before));
-            if came > 0 && count < quorum && is_answered_by(frames, before, frame) {
-                heard = came;
-                count = count.saturating_add(1);
-            }
+    for before in first..number {
+        let came = came_at(passages, before);
+        let answered = is_answered_by(frames, before.saturating_sub(first), frame);
+        if came.is_some() && count < quorum && answered {
+            heard = came;
+            count = count.saturating_add(1);
         }
     }
     heard
@@ -91,11 +130,13 @@ fn is_answered_by(frames: &[Envelope], place: usize, answer: &Envelope) -> bool 
     }
 }
 
-/// The step at which a frame came; 0 where it didn't.
-fn came_at(passages: &[Passage], index: usize) -> usize {
+/// The step at which a frame came, if it did.
+fn came_at(passages: &[Passage], index: usize) -> Option<usize>
+    ensures { result ≡ came_in passages.now index }
+{
     match passages.get(index) {
-        Some(passage) => passage.came.unwrap_or(0),
-        None => 0,
+        Some(passage) => passage.came,
+        None => None,
     }
 }
 
@@ -110,6 +151,7 @@ pub(crate) fn note_passages(
     requires sent { DeliversOneOf deed.now count }
     ensures count { OnOk result (length passages.new.items ≡ count) }
     ensures came { OnOk result (NotesComing deed.now step passages.old.items passages.new.items) }
+    ensures sent { OnOk result (NotesSending step passages.old.items passages.new.items) }
 {
     add_sent(passages, step, count)?;
     if let Deed::Delivered(frame) = deed {
@@ -123,6 +165,7 @@ fn add_sent(passages: &mut Vec<Passage>, step: usize, count: usize) -> Result<()
     requires { vec_len passages.old ≤ count }
     ensures count { OnOk result (length passages.new.items ≡ count) }
     ensures came { OnOk result (SameComings passages.old.items passages.new.items) }
+    ensures sent { OnOk result (NotesSending step passages.old.items passages.new.items) }
 {
     let sent = Passage {
         sent: step,
@@ -134,7 +177,8 @@ fn add_sent(passages: &mut Vec<Passage>, step: usize, count: usize) -> Result<()
 /// A frame came at a step.
 fn come(passages: &mut [Passage], index: usize, step: usize)
     requires { index < length passages.old }
-    ensures { NotesComing (Deed.Delivered index) step passages.old passages.new }
+    ensures came { NotesComing (Deed.Delivered index) step passages.old passages.new }
+    ensures sent { NotesSending step passages.old passages.new }
 {
     if passages[index].came.is_none() {
         passages[index].came = Some(step);

@@ -1,79 +1,100 @@
 //! What came of a line, in words.
 
-#![tactic(auto, using(picture::proofs::Growth::grows_by, picture::proofs::Growth::grows_on, picture::proofs::Growth::grows_not, crate::proofs::Texts::adds_by, crate::proofs::Texts::adds_behind, crate::proofs::Texts::adds_then))]
+#![tactic(auto, using(picture::proofs::Growth::grows_by, picture::proofs::Growth::grows_on, picture::proofs::Growth::grows_not, crate::proofs::LineLemmas::begins_with, crate::proofs::LineLemmas::begins_so))]
 
-ghost use Rattle.std.specs.Prelude.{OnOk, true};
+ghost use Rattle.std.specs.Prelude.{◌++◌, [], codes, decimal, IfOk, OnOk};
 ghost use Rattle.picture.specs.Growing.{Grows};
-ghost use Rattle.story.specs.Accounts.{Adds};
+ghost use Rattle.story.specs.Lines.{GrowsBy};
+ghost use Rattle.story.specs.Saying.{count_begin, fault_words};
+ghost use Rattle.story.specs.declared.writer.Form.TheVariants.{Words};
 
 use super::items::{Item, push_command, push_request};
 use super::ranges::Range;
 use diagram::push_frame;
-use events::WorldFault;
-use schedule::{ReplayCause, ReplayFault};
+use node_model::NodeFault;
+use schedule::ReplayFault;
 use sessions::SessionReply;
+use std::alloc::Global;
 use std::io::{self, Write};
 use store::Reply;
-use world_model::RoundEnd;
+use wire::{NodeId, Position};
+use world_model::{Answered, LearntEntry, Replied, RoundEnd};
 
-/// Adds a line of the schedule.
-pub(crate) fn push_line_words(text: &mut Vec<u8>, number: u64, line: &str) -> io::Result<()>
-    ensures { OnOk result (Adds true text.old.items text.new.items) }
-{
-    write!(text, "{number:>6}")?;
+/// A line of the schedule.
+pub(crate) fn line_words(alloc: Global, number: u64, line: &str) -> io::Result<Vec<u8>> {
+    let mut text = Vec::new(alloc);
+    write!(&mut text, "{number:>6}")?;
     text.extend_from_slice(b"  ")?;
-    write!(text, "{line}\n")
+    text.extend_from_slice(line.as_bytes())?;
+    Ok(text)
 }
 
-/// Adds what came of a line, below it.
-pub(crate) fn push_item_words(text: &mut Vec<u8>, item: &Item) -> io::Result<()>
-    ensures { OnOk result (Adds true text.old.items text.new.items) }
+/// What came of a line, below it.
+pub(crate) fn item_words(alloc: Global, item: &Item) -> io::Result<Vec<u8>>
+    ensures { IfOk result (λ line. GrowsBy (codes "        ") [] line.items) }
 {
+    let mut text = Vec::new(alloc);
     text.extend_from_slice(b"        ")?;
-    push_item(text, item)?;
-    text.extend_from_slice(b"\n")?;
-    Ok(())
+    push_item(&mut text, item)?;
+    Ok(text)
 }
 
-/// Adds how many frames were sent at a line, of which the first has this number.
-pub(crate) fn push_count_words(text: &mut Vec<u8>, first: usize, count: usize) -> io::Result<()>
-    ensures { OnOk result (Adds true text.old.items text.new.items) }
+/// How many frames were sent at a line, of which the first has this number.
+pub(crate) fn count_words(alloc: Global, first: usize, count: usize) -> io::Result<Vec<u8>>
+    ensures { IfOk result (λ line. GrowsBy (count_begin Words 0 count) [] line.items) }
 {
-    text.extend_from_slice(b"        frames sent: ")?;
-    write!(text, "{count}, from number {first} on\n")
+    let mut text = Vec::new(alloc);
+    write!(&mut text, "        frames sent: {count}")?;
+    push_from(&mut text, first)?;
+    Ok(text)
 }
 
-/// Adds the fault with which the run ends, and what helps at some: how many frames there are, or which ones wait.
-pub(crate) fn push_fault_words(
-    text: &mut Vec<u8>,
-    fault: ReplayFault,
-    frames: usize,
-    waiting: &[Range],
-) -> io::Result<()>
-    ensures { OnOk result (Adds true text.old.items text.new.items) }
-{
-    let (line, code, cause) = (fault.line, fault.cause.code(), fault.cause);
-    text.extend_from_slice(b"fault ")?;
-    write!(text, "{code} at line {line}: {cause}\n")?;
-    match cause {
-        ReplayCause::World(WorldFault::NoSuchFrame) => {
-            write!(text, "        frames so far: {frames}, numbered from 0\n")
-        }
-        ReplayCause::World(WorldFault::FlushLimit) => push_way_out(text, waiting),
-        _ => Ok(()),
-    }
-}
-
-/// Adds which frames wait where a flush doesn't end, and what ends it.
-fn push_way_out(text: &mut Vec<u8>, waiting: &[Range]) -> io::Result<()>
+/// Adds from which number on.
+fn push_from(text: &mut Vec<u8>, first: usize) -> io::Result<()>
     ensures { OnOk result (Grows text.old.items text.new.items) }
 {
-    text.extend_from_slice(b"        frames that wait: ")?;
-    push_ranges(text, waiting)?;
-    text.extend_from_slice(
-        b"\n        a way out: `timeout N` of a node that is up and `flush` again, which catches up with four slots each time\n",
+    write!(text, ", from number {first} on")
+}
+
+/// The fault with which the run ends.
+pub(crate) fn fault_words(alloc: Global, fault: ReplayFault) -> io::Result<Vec<u8>>
+    ensures { IfOk result (λ line. GrowsBy (fault_words fault) [] line.items) }
+{
+    let mut text = Vec::new(alloc);
+    let (line, code, cause) = (fault.line, fault.cause.code(), fault.cause);
+    write!(&mut text, "fault {code} at line {line}: {cause}")?;
+    Ok(text)
+}
+
+/// How many frames there are.
+pub(crate) fn frames_words(alloc: Global, frames: usize) -> io::Result<Vec<u8>>
+    ensures { IfOk result (λ line. GrowsBy (codes "        frames so far: " ++ (decimal frames ++ codes ", numbered from 0")) [] line.items) }
+{
+    let mut text = Vec::new(alloc);
+    write!(
+        &mut text,
+        "        frames so far: {frames}, numbered from 0"
     )?;
-    Ok(())
+    Ok(text)
+}
+
+/// Which frames wait where a flush doesn't end.
+pub(crate) fn waiting_words(alloc: Global, waiting: &[Range]) -> io::Result<Vec<u8>>
+    ensures { IfOk result (λ line. GrowsBy (codes "        frames that wait: ") [] line.items) }
+{
+    let mut text = Vec::new(alloc);
+    text.extend_from_slice(b"        frames that wait: ")?;
+    push_ranges(&mut text, waiting)?;
+    Ok(text)
+}
+
+/// What ends such a flush.
+pub(crate) fn way_out_words(alloc: Global) -> io::Result<Vec<u8>> {
+    let mut text = Vec::new(alloc);
+    text.extend_from_slice(
+        b"        a way out: `timeout N` of a node that is up and `flush` again, which catches up with four slots each time",
+    )?;
+    Ok(text)
 }
 
 /// Adds the ranges of frames in words: `3, 7 to 12`.
@@ -111,59 +132,104 @@ pub(crate) fn push_item(text: &mut Vec<u8>, item: &Item) -> io::Result<()>
             to,
             facts,
         } => push_frame(text, *number, *from, *to, facts),
-        Item::Learnt(entry) => {
-            let (node, slot) = (entry.node.value(), entry.slot.value());
-            write!(text, "node {node} learns slot {slot}: ")?;
-            push_command(text, entry.command.command())
-        }
-        Item::Replied(entry) => {
-            let (node, code) = (entry.node.value(), entry.reply.code());
-            write!(text, "node {node} replies to ")?;
-            push_request(text, entry.client, entry.number.value())?;
-            let meaning = reply_meaning(entry.reply);
-            write!(text, ": {code}, {meaning}")
-        }
-        Item::Answered(entry) => {
-            let (node, position) = (entry.node.value(), entry.position);
-            write!(text, "node {node} answers at position {position}: ")?;
-            text.extend_from_slice(entry.text.as_bytes())?;
-            Ok(())
-        }
-        _ => push_event(text, item),
+        Item::Learnt(entry) => push_learnt(text, *entry),
+        Item::Replied(entry) => push_replied(text, *entry),
+        Item::Answered(entry) => push_answered(text, *entry),
+        Item::Restored(node, position) => push_restored(text, *node, *position),
+        Item::Lost => push_lost(text),
+        Item::Refused(node, fault) => push_refused(text, *node, *fault),
+        Item::Stopped(node, fault) => push_stopped(text, *node, *fault),
+        Item::Round(node, end) => push_round(text, *node, *end),
     }
 }
 
-/// Adds what happened to a node in words.
-fn push_event(text: &mut Vec<u8>, item: &Item) -> io::Result<()>
+/// Adds that a node learnt a slot.
+fn push_learnt(text: &mut Vec<u8>, entry: &LearntEntry) -> io::Result<()>
     ensures { OnOk result (Grows text.old.items text.new.items) }
 {
-    match item {
-        Item::Restored(node, position) => {
-            let (node, position) = (node.value(), position.value());
-            write!(
-                text,
-                "node {node} restores the checkpoint at position {position}"
-            )
-        }
-        Item::Lost => {
-            text.extend_from_slice(b"the frame came to a node that is down, and is lost")?;
-            Ok(())
-        }
-        Item::Refused(node, fault) => {
-            let (node, code) = (node.value(), fault.code());
-            write!(text, "node {node} refuses: {code}, {fault}")
-        }
-        Item::Stopped(node, fault) => {
-            let (node, code) = (node.value(), fault.code());
-            write!(text, "node {node} stops: {code}, {fault}")
-        }
-        Item::Round(node, end) => {
-            let node = node.value();
-            write!(text, "the round of node {node} ends: ")?;
-            push_end(text, *end)
-        }
-        _ => Ok(()),
-    }
+    let (node, slot) = (entry.node.value(), entry.slot.value());
+    write!(text, "node {node} learns slot {slot}: ")?;
+    push_command(text, entry.command.command())
+}
+
+/// Adds a reply.
+fn push_replied(text: &mut Vec<u8>, entry: &Replied) -> io::Result<()>
+    ensures { OnOk result (Grows text.old.items text.new.items) }
+{
+    let node = entry.node.value();
+    write!(text, "node {node} replies to ")?;
+    push_reply(text, entry)
+}
+
+/// Adds to which request a reply is, and what it says.
+fn push_reply(text: &mut Vec<u8>, entry: &Replied) -> io::Result<()>
+    ensures { OnOk result (Grows text.old.items text.new.items) }
+{
+    push_request(text, entry.client, entry.number.value())?;
+    let (code, meaning) = (entry.reply.code(), reply_meaning(entry.reply));
+    write!(text, ": {code}, {meaning}")
+}
+
+/// Adds an answer.
+fn push_answered(text: &mut Vec<u8>, entry: &Answered) -> io::Result<()>
+    ensures { OnOk result (Grows text.old.items text.new.items) }
+{
+    let (node, position) = (entry.node.value(), entry.position);
+    write!(text, "node {node} answers at position {position}: ")?;
+    push_bytes(text, entry.text.as_bytes())
+}
+
+fn push_bytes(text: &mut Vec<u8>, bytes: &[u8]) -> io::Result<()>
+    ensures { OnOk result (Grows text.old.items text.new.items) }
+{
+    text.extend_from_slice(bytes)?;
+    Ok(())
+}
+
+/// Adds that a node restored a checkpoint.
+fn push_restored(text: &mut Vec<u8>, node: NodeId, position: Position) -> io::Result<()>
+    ensures { OnOk result (Grows text.old.items text.new.items) }
+{
+    let (node, position) = (node.value(), position.value());
+    write!(
+        text,
+        "node {node} restores the checkpoint at position {position}"
+    )
+}
+
+/// Adds that a frame was lost.
+fn push_lost(text: &mut Vec<u8>) -> io::Result<()>
+    ensures { OnOk result (Grows text.old.items text.new.items) }
+{
+    text.extend_from_slice(b"the frame came to a node that is down, and is lost")?;
+    Ok(())
+}
+
+/// Adds how a round of a node ended.
+fn push_round(text: &mut Vec<u8>, node: NodeId, end: RoundEnd) -> io::Result<()>
+    ensures { OnOk result (Grows text.old.items text.new.items) }
+{
+    let node = node.value();
+    write!(text, "the round of node {node} ends: ")?;
+    push_end(text, end)
+}
+
+/// Adds that a node refused.
+fn push_refused(text: &mut Vec<u8>, node: NodeId, fault: NodeFault) -> io::Result<()>
+    ensures { OnOk result (Grows text.old.items text.new.items) }
+{
+    let (node, code) = (node.value(), fault.code());
+    write!(text, "node {node} refuses: {code}, ")?;
+    write!(text, "{fault}")
+}
+
+/// Adds that it stopped.
+fn push_stopped(text: &mut Vec<u8>, node: NodeId, fault: NodeFault) -> io::Result<()>
+    ensures { OnOk result (Grows text.old.items text.new.items) }
+{
+    let (node, code) = (node.value(), fault.code());
+    write!(text, "node {node} stops: {code}, ")?;
+    write!(text, "{fault}")
 }
 
 /// Adds how a round by hand ended.

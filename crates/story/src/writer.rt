@@ -1,13 +1,19 @@
-//! What writes a run down.
+//! What writes a run down, line by line.
 
-ghost use Rattle.std.specs.Prelude.{◌≡◌, [], OnOk, true};
-ghost use Rattle.story.specs.Accounts.{Adds};
+ghost use Rattle.std.specs.Prelude.{[], ◌∷◌, IfOk, OnOk};
+ghost use Rattle.story.specs.Lines.{AddsLines, GrowsBy};
+ghost use Rattle.story.specs.Saying.{count_begin, fault_begins, help, item_begin, line_begin, world_help};
+ghost use Rattle.story.specs.declared.writer.Form.TheVariants.{Words};
 
 use super::items::Item;
-use super::objects::{push_count_object, push_fault_object, push_item_object, push_line_object};
+use super::lines::push_line;
+use super::objects::{count_object, fault_object, item_object, line_object};
 use super::ranges::Range;
-use super::words::{push_count_words, push_fault_words, push_item_words, push_line_words};
-use schedule::ReplayFault;
+use super::words::{
+    count_words, fault_words, frames_words, item_words, line_words, waiting_words, way_out_words,
+};
+use events::WorldFault;
+use schedule::{ReplayCause, ReplayFault};
 use std::alloc::Global;
 use std::io;
 
@@ -20,71 +26,165 @@ pub enum Form {
     Json,
 }
 
-/// Writes a run down in a form, each part behind what stands there. Each error is out of memory.
-#[derive(Drop)]
-pub(crate) struct Writer {
+/// Tells a line of the schedule. Here and below an error is out of memory.
+pub(crate) fn tell_line(
     alloc: Global,
     form: Form,
-    text: Vec<u8>,
+    text: &mut Vec<u8>,
+    number: u64,
+    line: &str,
+) -> io::Result<()>
+    ensures { OnOk result (AddsLines text.old.items (line_begin form number ∷ []) text.new.items) }
+{
+    let line = line_in(alloc, form, number, line)?;
+    push_line(text, line.as_slice())
 }
 
-impl Writer {
-    /// Nothing is written.
-    pub fn new(alloc: Global, form: Form) -> Writer
-        ensures { result.text.items ≡ [] }
-    {
-        Writer {
-            alloc,
-            form,
-            text: Vec::new(alloc),
+fn line_in(alloc: Global, form: Form, number: u64, line: &str) -> io::Result<Vec<u8>>
+    ensures { IfOk result (λ line. GrowsBy (line_begin form number) [] line.items) }
+{
+    match form {
+        Form::Words => line_words(alloc, number, line),
+        Form::Json => line_object(alloc, number, line),
+    }
+}
+
+/// Tells what came of a line.
+pub(crate) fn tell_item(
+    alloc: Global,
+    form: Form,
+    text: &mut Vec<u8>,
+    line: u64,
+    item: &Item,
+) -> io::Result<()>
+    ensures { OnOk result (AddsLines text.old.items (item_begin form line ∷ []) text.new.items) }
+{
+    let line = item_in(alloc, form, line, item)?;
+    push_line(text, line.as_slice())
+}
+
+fn item_in(alloc: Global, form: Form, line: u64, item: &Item) -> io::Result<Vec<u8>>
+    ensures { IfOk result (λ text. GrowsBy (item_begin form line) [] text.items) }
+{
+    match form {
+        Form::Words => item_words(alloc, item),
+        Form::Json => item_object(alloc, line, item),
+    }
+}
+
+/// Tells how many frames were sent at a line, of which the first has this number.
+pub(crate) fn tell_count(
+    alloc: Global,
+    form: Form,
+    text: &mut Vec<u8>,
+    line: u64,
+    first: usize,
+    count: usize,
+) -> io::Result<()>
+    ensures { OnOk result (AddsLines text.old.items (count_begin form line count ∷ []) text.new.items) }
+{
+    let line = count_in(alloc, form, line, first, count)?;
+    push_line(text, line.as_slice())
+}
+
+fn count_in(alloc: Global, form: Form, line: u64, first: usize, count: usize) -> io::Result<Vec<u8>>
+    ensures { IfOk result (λ text. GrowsBy (count_begin form line count) [] text.items) }
+{
+    match form {
+        Form::Words => count_words(alloc, first, count),
+        Form::Json => count_object(alloc, line, first, count),
+    }
+}
+
+/// Tells the fault with which the run ends, and what helps at some: how many frames there are, or which ones wait.
+pub(crate) fn tell_fault(
+    alloc: Global,
+    form: Form,
+    text: &mut Vec<u8>,
+    fault: ReplayFault,
+    frames: usize,
+    waiting: &[Range],
+) -> io::Result<()>
+    ensures { OnOk result (AddsLines text.old.items (fault_begins form fault frames) text.new.items) }
+{
+    match form {
+        Form::Words => tell_fault_words(alloc, text, fault, frames, waiting),
+        Form::Json => {
+            let line = fault_object(alloc, fault, frames, waiting)?;
+            push_line(text, line.as_slice())
         }
     }
+}
 
-    /// Writes a line of the schedule.
-    pub fn line(&mut self, number: u64, line: &str) -> io::Result<()>
-        ensures { OnOk result (Adds true self.old.text.items self.new.text.items) }
-    {
-        match self.form {
-            Form::Words => push_line_words(&mut self.text, number, line),
-            Form::Json => push_line_object(self.alloc, &mut self.text, number, line),
-        }
-    }
+fn tell_fault_words(
+    alloc: Global,
+    text: &mut Vec<u8>,
+    fault: ReplayFault,
+    frames: usize,
+    waiting: &[Range],
+) -> io::Result<()>
+    ensures { OnOk result (AddsLines text.old.items (fault_begins Words fault frames) text.new.items) }
+{
+    let line = fault_words(alloc, fault)?;
+    push_line(text, line.as_slice())?;
+    tell_help(alloc, text, fault.cause, frames, waiting)
+}
 
-    /// Writes what came of a line.
-    pub fn item(&mut self, line: u64, item: &Item) -> io::Result<()>
-        ensures { OnOk result (Adds true self.old.text.items self.new.text.items) }
-    {
-        match self.form {
-            Form::Words => push_item_words(&mut self.text, item),
-            Form::Json => push_item_object(self.alloc, &mut self.text, line, item),
-        }
+/// Tells what helps where the run ended so.
+fn tell_help(
+    alloc: Global,
+    text: &mut Vec<u8>,
+    cause: ReplayCause,
+    frames: usize,
+    waiting: &[Range],
+) -> io::Result<()>
+    ensures { OnOk result (AddsLines text.old.items (help cause frames) text.new.items) }
+{
+    match cause {
+        ReplayCause::Schedule(_) => Ok(()),
+        ReplayCause::World(fault) => tell_world_help(alloc, text, fault, frames, waiting),
     }
+}
 
-    /// Writes how many frames were sent at a line, of which the first has this number.
-    pub fn count(&mut self, line: u64, first: usize, count: usize) -> io::Result<()>
-        ensures { OnOk result (Adds true self.old.text.items self.new.text.items) }
-    {
-        match self.form {
-            Form::Words => push_count_words(&mut self.text, first, count),
-            Form::Json => push_count_object(&mut self.text, line, first, count),
-        }
+fn tell_world_help(
+    alloc: Global,
+    text: &mut Vec<u8>,
+    fault: WorldFault,
+    frames: usize,
+    waiting: &[Range],
+) -> io::Result<()>
+    ensures { OnOk result (AddsLines text.old.items (world_help fault frames) text.new.items) }
+{
+    match fault {
+        WorldFault::NoSuchFrame => tell_frames(alloc, text, frames),
+        WorldFault::FlushLimit => tell_waiting(alloc, text, waiting),
+        WorldFault::NoSuchNode => Ok(()),
+        WorldFault::Memory => Ok(()),
+        WorldFault::NotEmpty => Ok(()),
     }
+}
 
-    /// Writes the fault with which the run ends, how many frames there are, and those that wait.
-    pub fn fault(&mut self, fault: ReplayFault, frames: usize, waiting: &[Range]) -> io::Result<()>
-        ensures { OnOk result (Adds true self.old.text.items self.new.text.items) }
-    {
-        match self.form {
-            Form::Words => push_fault_words(&mut self.text, fault, frames, waiting),
-            Form::Json => push_fault_object(&mut self.text, fault, frames, waiting),
-        }
-    }
+/// Tells how many frames there are.
+fn tell_frames(alloc: Global, text: &mut Vec<u8>, frames: usize) -> io::Result<()>
+    ensures { OnOk result (AddsLines text.old.items (world_help WorldFault.NoSuchFrame frames) text.new.items) }
+{
+    let line = frames_words(alloc, frames)?;
+    push_line(text, line.as_slice())
+}
 
-    /// What is written.
-    pub fn finish(self) -> Vec<u8>
-        ensures { result.items ≡ self.text.items }
-    {
-        let Writer { text, .. } = self;
-        text
-    }
+/// Tells which frames wait where a flush doesn't end, and what ends it.
+fn tell_waiting(alloc: Global, text: &mut Vec<u8>, waiting: &[Range]) -> io::Result<()>
+    ensures { OnOk result (AddsLines text.old.items (world_help WorldFault.FlushLimit 0) text.new.items) }
+{
+    let line = waiting_words(alloc, waiting)?;
+    push_line(text, line.as_slice())?;
+    tell_way_out(alloc, text)
+}
+
+/// Tells what ends such a flush.
+fn tell_way_out(alloc: Global, text: &mut Vec<u8>) -> io::Result<()>
+    ensures { OnOk result (AddsLines text.old.items ([] ∷ []) text.new.items) }
+{
+    let line = way_out_words(alloc)?;
+    push_line(text, line.as_slice())
 }

@@ -12,7 +12,7 @@ loop-index-init c =
       lines = ap (λ (t : Told). t.lines) told;
       steps = ap (λ (t : Told). t.steps) told;
       up_to_date = subst (λ (t : Told). IsUpToDate c.args.steps.now t) (sym told) refl;
-      tells = same_tells c.args.lines.now c.args.steps.now _ _ _ _ c.begin-listing.ensures.entries told none;
+      tells = same_tells c.args.lines.now c.args.steps.now c.args.outcomes.now _ _ _ _ c.begin-listing.ensures.entries told none;
     }
 
 pub list_steps-requires-clause-there : goal.list_steps-requires-clause-there
@@ -30,7 +30,7 @@ loop-index-preserved c =
       lines = refl;
       steps = made.steps ∙ sym (begin_at c.args.lines.now c.loop-index.index _ c.loop-index-test.true);
       up_to_date = made.up_to_date;
-      tells = one_line c.args.lines.now c.args.steps.now c.list_steps.new.self c.loop-index.index made.up_to_date _ _ _
+      tells = one_line c.args.lines.now c.args.steps.now c.args.outcomes.now c.list_steps.new.self c.loop-index.index made.up_to_date _ _ _
           (made.goes_on.goes_on c.args.lines.now c.loop-index.invariant.tells) (made.lines ∙ c.loop-index.invariant.lines)
           (slice_get-get_or c.args.lines.now c.loop-index.index _ c.loop-index-test.true) made.steps c.in_ok-push.ensures.items refl;
     }

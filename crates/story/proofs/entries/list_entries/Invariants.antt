@@ -8,5 +8,5 @@ invariant-loop-index l = record {
   lines : l.listing.told.lines ≡ l.index;
   steps : l.listing.told.steps ≡ begin_before l.lines l.index;
   up_to_date : IsUpToDate l.steps l.listing.told;
-  tells : Tells l.lines l.steps l.listing.entries.items l.listing.told;
+  tells : Tells l.lines l.steps l.outcomes l.listing.entries.items l.listing.told;
 }

@@ -1,14 +1,14 @@
-use Rattle.std.proofs.Common.{◌+◌, refl, sym, ap}
+use Rattle.std.proofs.Common.{◌+◌, refl, ap}
 use Rattle.story.specs.declared.entries.Told.{Told}
-use Rattle.story.proofs.TellingLemmas.{stays, one_answer}
+use Rattle.story.specs.Telling.{no_more}
+use Rattle.story.proofs.TellingLemmas.{one_entry}
 use Rattle.story.proofs.entries.Listing.list_answers.Goals as goal
 
 pub loop-index-init : goal.loop-index-init
-loop-index-init c = record { told = refl; goes_on = stays _ _ refl refl }
+loop-index-init c = record { told = refl; entries = no_more _ _ }
 
 pub loop-index-preserved : goal.loop-index-preserved
 loop-index-preserved c = record {
   told = ap (λ (t : Told). record t { counts = record t.counts { answers = c.loop-index.index + 1 } }) c.loop-index.invariant.told;
-  goes_on = one_answer _ c.loop-index.self _ c.loop-index.index c.loop-index.invariant.goes_on
-      (sym (ap (λ (t : Told). t.counts.answers) c.loop-index.invariant.told)) c.in_ok-push.ensures.items refl;
+  entries = one_entry _ _ _ _ _ _ c.loop-index.invariant.entries c.in_ok-push.ensures.items;
 }

@@ -1,9 +1,10 @@
 use Rattle.std.proofs.Common.{◌≡◌}
-use Rattle.story.specs.Telling.{GoesOn}
+use Rattle.story.specs.declared.entries.Entry.TheVariants.{Frame}
+use Rattle.story.specs.Telling.{Follow}
 use Rattle.story.proofs.entries.Listing.list_frames.Given as goal
 
 abbrev pub invariant-loop-index : goal.invariant-loop-index
 invariant-loop-index l = record {
   told : l.self.told ≡ record l.initial.self.told { counts = record l.initial.self.told.counts { frames = l.index } };
-  goes_on : GoesOn l.initial.self l.self;
+  entries : Follow Frame l.initial.self.told.counts.frames l.index l.initial.self.entries.items l.self.entries.items;
 }

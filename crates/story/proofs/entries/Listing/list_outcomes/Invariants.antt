@@ -1,6 +1,6 @@
 use Rattle.std.proofs.Common.{◌≡◌}
 use Rattle.story.specs.Counted.{AreWithin}
-use Rattle.story.specs.Telling.{GoesOn}
+use Rattle.story.specs.Telling.{FollowOutcomes}
 use Rattle.story.proofs.entries.Listing.list_outcomes.Given as goal
 
 abbrev pub invariant-loop-index : goal.invariant-loop-index
@@ -12,5 +12,6 @@ invariant-loop-index l = record {
       outcomes = l.index;
     };
   };
-  goes_on : GoesOn l.fn.self l.self;
+  entries : FollowOutcomes l.outcomes l.ends l.initial.self.told.counts l.self.told.counts l.initial.self.entries.items
+      l.self.entries.items;
 }

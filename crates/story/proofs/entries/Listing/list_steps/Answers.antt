@@ -1,8 +1,9 @@
-use Rattle.std.proofs.Common.{◌≡◌, ℕ, ◌+◌, ◌<◌, ◌∙◌, length, refl, sym, ap, arith}
+use Rattle.std.proofs.Common.{◌≡◌, ℕ, ◌+◌, ◌<◌, ◌∙◌, length, sym, ap, arith}
+use Rattle.std.proofs.lemmas.Option.{slice_get-get_or}
 use Rattle.story.specs.declared.entries.Told.{Told}
 use Rattle.story.specs.Counted.{counts_before}
 use Rattle.story.proofs.LedgerLemmas.{counts_at}
-use Rattle.story.proofs.TellingLemmas.{one_step, then_by}
+use Rattle.story.proofs.TellingLemmas.{one_step}
 use Rattle.story.proofs.entries.Listing.list_steps.Goals as goal
 
 pub loop-index-preserved : goal.loop-index-preserved
@@ -15,7 +16,7 @@ loop-index-preserved c =
       lines = ap (λ (t : Told). t.lines) told ∙ c.loop-index.invariant.lines;
       up_to_date = ap (λ (t : Told). t.counts) told ∙ sym (counts_at c.args.steps.now c.loop-index.index _ there)
           ∙ sym (ap (λ (n : ℕ). counts_before c.args.steps.now n) steps);
-      goes_on = then_by _ _ _ _ (one_step c.args.steps.now _ c.loop-index.self _ c.loop-index.index c.loop-index.invariant.goes_on
-          c.loop-index.invariant.steps there c.loop-index.invariant.up_to_date c.in_ok-push.ensures.items refl)
-          c.in_ok-list_outcomes.ensures.goes_on;
+      goes_on = one_step c.args.steps.now c.args.outcomes.now _ c.loop-index.self c.list_outcomes.new.self c.loop-index.index _ _
+          c.loop-index.invariant.goes_on c.loop-index.invariant.steps (slice_get-get_or c.args.steps.now c.loop-index.index _ there)
+          c.loop-index.invariant.up_to_date c.in_ok-push.ensures.items c.in_ok-list_outcomes.ensures.entries told;
     }

@@ -4,9 +4,10 @@ use Rattle.story.specs.declared.ledger.Counts.{Counts}
 use Rattle.story.specs.declared.ledger.Step.{Step}
 use Rattle.story.specs.Counted.{AreWithin}
 use Rattle.story.specs.Ledgers.{counted}
-use Rattle.story.specs.Passing.{NotesComing}
+use Rattle.story.specs.Passing.{NotesComing, NotesSending}
 use Rattle.story.proofs.LedgerLemmas.{ends_noted, equal_within, falls_noted, lines_noted}
 use Rattle.story.proofs.PassingLemmas.{passages_noted}
+use Rattle.story.proofs.SendingLemmas.{sent_noted}
 use Rattle.story.proofs.ledger.Ledger.note.Goals as goal
 
 pub returns-in-Ok-clause-complete : goal.returns-in-Ok-clause-complete
@@ -17,6 +18,8 @@ returns-in-Ok-clause-complete c =
     subst (λ (k : Counts). AreWithin (counted c.args.self.now) k) (sym c.count_lists-ends.ensures) c.requires.kept.within in
     let noted : NotesComing c.args.deed (length c.args.self.now.steps.items) c.args.self.now.passages.items
     c.note_passages.new.passages.items = search rules in
+    let sending : NotesSending (length c.args.self.now.steps.items) c.args.self.now.passages.items c.note_passages.new.passages.items =
+    search rules in
     let passages : length c.note_passages.new.passages.items ≡ c.count_lists-ends.result.frames = search rules in
     record {
       lines = lines_noted _ _ s e _ c.requires.kept.lines;
@@ -24,6 +27,7 @@ returns-in-Ok-clause-complete c =
       ends = ends_noted _ _ s e ∙ c.count_lists-ends.ensures;
       passages = passages ∙ ap (λ (k : Counts). k.frames) c.count_lists-ends.ensures;
       came = passages_noted _ _ s _ _ e noted c.requires.kept.came;
+      sent = sent_noted _ _ s _ _ e noted sending c.requires.kept.passages passages c.requires.kept.sent;
       waiting = c.requires.kept.searched.one_each;
     }
 
@@ -35,6 +39,8 @@ returns-in-Ok-clause-kept c =
     subst (λ (k : Counts). AreWithin (counted c.args.self.now) k) (sym c.count_lists-ends.ensures) c.requires.kept.within in
     let noted : NotesComing c.args.deed (length c.args.self.now.steps.items) c.args.self.now.passages.items
     c.note_passages.new.passages.items = search rules in
+    let sending : NotesSending (length c.args.self.now.steps.items) c.args.self.now.passages.items c.note_passages.new.passages.items =
+    search rules in
     let passages : length c.note_passages.new.passages.items ≡ c.count_lists-ends.result.frames = search rules in
     record {
       lines = lines_noted _ _ s e _ c.requires.kept.lines;
@@ -42,5 +48,6 @@ returns-in-Ok-clause-kept c =
       within = equal_within _ _ (ends_noted _ _ s e ∙ c.count_lists-ends.ensures);
       passages = passages ∙ ap (λ (k : Counts). k.frames) (sym (ends_noted _ _ s e));
       came = passages_noted _ _ s _ _ e noted c.requires.kept.came;
+      sent = sent_noted _ _ s _ _ e noted sending c.requires.kept.passages passages c.requires.kept.sent;
       searched = c.requires.kept.searched;
     }

@@ -17,6 +17,7 @@ note-requires-clause-kept c = record {
   within = done_has (counted c.args.self.now) _ c.args.action _ _ c.in-Ok.ensures.done c.requires.kept.within;
   passages = c.requires.kept.passages;
   came = c.requires.kept.came;
+  sent = c.requires.kept.sent;
   searched = done_searched c.args.self.now.lowest _ c.args.action _ _ c.in-Ok.ensures.done c.requires.kept.searched;
 }
 
@@ -33,5 +34,6 @@ returns-in-Err-clause-kept c =
       within = refused_has (counted c.args.self.now) _ c.args.action _ h.why _ h.refused c.requires.kept.within;
       passages = c.requires.kept.passages;
       came = c.requires.kept.came;
+      sent = c.requires.kept.sent;
       searched = refused_searched c.args.self.now.lowest _ c.args.action _ h.why _ h.refused c.requires.kept.searched;
     }
