@@ -12,12 +12,10 @@ use Rattle.node_model.specs.declared.fault.NodeFault.TheVariants as node_fault
 use Rattle.node_model.specs.declared.input.Input.{Input}
 use Rattle.node_model.specs.declared.input.Input.TheVariants as input
 use Rattle.world_model.specs.Lives.{Took}
-use Rattle.life.specs.Lives.{Does, GoesOn, LifeState}
+use Rattle.life.specs.Lives.{GoesOn, LifeState}
 use Rattle.life.specs.Telling.{to_itself}
-use Rattle.life.specs.declared.fault.LifeFault.{LifeFault}
-use Rattle.life.specs.declared.fault.LifeFault.TheVariants.{Memory, Node}
 use Rattle.serving.specs.Knowing.{IsPosition}
-use Rattle.serving.specs.Refusals.{IsRefusal, IsRefused}
+use Rattle.serving.specs.Refusals.{IsRefused}
 use Rattle.serving.specs.Resting.{IsCheckpointed}
 use Rattle.serving.specs.Staying.{WasGiven}
 use Rattle.serving.specs.declared.checkpoints.TheConstants.{SLOTS_BETWEEN_CHECKPOINTS}
@@ -67,19 +65,6 @@ module _ {S : Type 0} (storages : Ghosts S) where
   }
 
   -- ---- the node was given an input
-  pub was_given : (old new : LifeState S) (given : Input) (result : Result (Unit {0}) LifeFault) (refused : Option NodeFault)
-      → Does storages old (Took given) result new → IsRefusal result (Ok refused) → WasGiven storages old given new
-  was_given old new given (Ok done) refused does refusal =
-      record { result = Ok does.0; takes = does.1; goes_on = λ fault is. absurd (cc) }
-  was_given old new given (Err (Node fault)) (Some other) does refusal = record {
-    result = Err fault;
-    takes = does;
-    goes_on = λ f is. let same : other ≡ f = cc in subst IsRefused same refusal.1;
-  }
-  was_given old new given (Err (Node fault)) None does refusal = absurd (cc)
-  was_given old new given (Err Memory) (Some other) does refusal = absurd (cc)
-  was_given old new given (Err Memory) None does refusal = absurd (cc)
-
   -- one that is down isn't
   not_down : (old new : NodeState S) (given : Input) (result : Result Response NodeFault) → NodeSteps storages old given result new
       → ((fault : NodeFault) → result ≡ Err fault → IsRefused fault) → old.up ≡ None → ⊥

@@ -2,7 +2,7 @@ use Rattle.std.proofs.Common.{refl}
 use Rattle.serving.specs.Seen.{server_of}
 use Rattle.serving.proofs.Coming.{serves_given}
 use Rattle.life.specs.Seen.{life_of}
-use Rattle.serving.proofs.Checkpointing.{was_given}
+use Rattle.serving.proofs.Givings.{was_given}
 use Rattle.serving.proofs.server.Server.give.Goals as goal
 
 pub returns-in_err-refusal-clause-serves : goal.returns-in_err-refusal-clause-serves
