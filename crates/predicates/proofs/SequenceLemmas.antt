@@ -8,14 +8,15 @@ use Rattle.std.specs.List.Sorted.{IsNonDecreasingBy, IsPartitionedBy, IsPartitio
 use Rattle.tpoint.proofs.Fractions.{moment_lt, ≤ᶠ-<ᶠ, <ᶠ_of_≤ᶠ_not}
 use Rattle.tpoint.proofs.Periods.{over_at, up_then_before}
 use Rattle.tpoint.proofs.PieceLemmas.{rises_le, place_within, piece_from, piece_until, leg_to, leg_from}
+use Rattle.tpoint.proofs.PieceLemmas.{discrete_to, discrete_from, held_to, held_from, last_to, last_from}
 use Rattle.tpoint.specs.Fraction.{Fraction}
 use Rattle.tpoint.specs.Moving.{Position, Sequence, HasValue, At, OnLeg, Rises, moment, vertex}
 use Rattle.tpoint.specs.Extents.{Span, HasInstant, Shares, Area, Inside, first_whole, last_whole}
 use Rattle.tpoint.specs.Places.{EachAt}
-use Rattle.tpoint.specs.Pieces.{OnPiece, place}
+use Rattle.tpoint.specs.Pieces.{OnPiece, AtPoint, HeldUntil, place}
 use Rattle.tpoint.specs.declared.point.Point.{Point}
 use Rattle.tpoint.specs.declared.interp.Interp.{Interp}
-use Rattle.tpoint.specs.declared.interp.Interp.TheVariants.{Linear}
+use Rattle.tpoint.specs.declared.interp.Interp.TheVariants.{Discrete, Step, Linear}
 use Rattle.predicates.specs.declared.questions.Question.{Question}
 use Rattle.predicates.specs.declared.questions.Question.TheVariants.{Ever, Always}
 use Rattle.predicates.specs.declared.questions.Tri.{Tri}
@@ -23,7 +24,7 @@ use Rattle.predicates.specs.declared.questions.Tri.TheVariants.{Yes, No, None}
 use Rattle.predicates.specs.Predicates.{SomeInside, AllInside}
 use Rattle.predicates.specs.Questions.{AnswersQuestion, decides}
 use Rattle.predicates.specs.Courses.{Crosses}
-use Rattle.predicates.proofs.StayLemmas.{answers_same}
+use Rattle.predicates.proofs.StayLemmas.{answers_same, point_outside, held_outside}
 use Rattle.predicates.proofs.EndLemmas.{settled_leg, passed_leg, leg_lies}
 
 -- the values of a list of points
@@ -287,6 +288,26 @@ stays_inside ps p r i k a b has rise begun h e f over x y =
     let later = rise k a b e f in
     leg_answers Always ps p r k a b Yes e f (slice_get_within ps (k + 1) b f)
     (settled_leg Always a b p r later has (omega (arith, from, later)) (omega (arith, later, over)) (x, y))
+
+-- ---- a position that stays and isn't in the rectangle
+pub stays_outside : (interp : Interp) (ps : List Point) (p : Span) (r : Area) (i k : ℕ) (a : Point) → ¬ (interp ≡ Linear) → HasInstant p →
+    ((k : ℕ) → Rises ps k) → EachAt ps (λ (q : Point). first_whole p ≤ q.t) i → i ≤ k → slice_get ps k ≡ Some a → a.t ≤ last_whole p →
+    ¬ Inside (place a) r → AnswersQuestion Ever (OnPiece interp ps k) p r No
+stays_outside Discrete ps p r i k a stays has rise begun h e over n =
+    let from = begun_later ps (first_whole p) i k a rise begun h e in
+    answers_same Ever (AtPoint a) (OnPiece Discrete ps k) p r No (discrete_to ps k a e) (discrete_from ps k a e) (point_outside a p r has from over n)
+stays_outside Step ps p r i k a stays has rise begun h e over n =
+    let from = begun_later ps (first_whole p) i k a rise begun h e in
+    elim (cases_lt (k + 1) (length ps)) [
+      | inl more ↦
+          let b = get_or ps (k + 1) a in
+          let f = slice_get-get_or ps (k + 1) a more in
+          answers_same Ever (HeldUntil a b) (OnPiece Step ps k) p r No (held_to ps rise k a b e f) (held_from ps k a b e f)
+          (held_outside a b p r (rise k a b e f) has from over n)
+      | inr last ↦
+          answers_same Ever (AtPoint a) (OnPiece Step ps k) p r No (last_to ps k a last e) (last_from ps rise k a last e) (point_outside a p r has from over n)
+    ]
+stays_outside Linear ps p r i k a stays has rise begun h e over n = absurd (stays refl)
 
 pub first_inside : (ps : List Point) (r : Area) (i : ℕ) (a : Point) → slice_get ps i ≡ Some a → Inside (place a) r →
     EachAt ps (λ (q : Point). Inside (place q) r) i

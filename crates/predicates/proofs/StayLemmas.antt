@@ -1,8 +1,8 @@
 -- What a position answers that stays as it is listed.
-use Rattle.std.proofs.Common.{◌≡◌, ℕ, ◌+◌, ◌<◌, ◌≤◌, ℤ, ◌≤ℤ◌, ◌↔◌, inl, inr, Bool, false, IsTrue, arith}
+use Rattle.std.proofs.Common.{◌≡◌, refl, ℕ, ◌+◌, ◌<◌, ◌≤◌, ℤ, ◌≤ℤ◌, ◌↔◌, inl, inr, Bool, true, false, IsTrue, arith}
 use Rattle.std.proofs.lemmas.Bool.{cases_lt}
 use Rattle.tpoint.proofs.Fractions.{≤ᶠ_trans, ≤ᶠ_refl, ≈-≤ᶠ, ≤ᶠ-≈, ≈_sym, ≈_refl, ≤ᶠ-<ᶠ, <ᶠ-≤ᶠ, whole_le, moment_le, moment_lt}
-use Rattle.tpoint.proofs.Periods.{before_begin, over_at, whole_lies, lies_same, up_then_before, early}
+use Rattle.tpoint.proofs.Periods.{before_begin, first_then, over_at, whole_lies, lies_same, up_then_before, early}
 use Rattle.tpoint.specs.Fraction.{Fraction, ◌≈◌, ◌≤ᶠ◌, ◌<ᶠ◌}
 use Rattle.tpoint.specs.Moving.{Position, IsPositionOf, moment}
 use Rattle.tpoint.specs.Extents.{Span, HasInstant, LiesIn, Shares, Area, Between, Inside, first_whole, last_whole}
@@ -137,6 +137,17 @@ held_answers q point next p r there answer later has when h =
     (λ t v k. record { reached = k.while.0; not_left = k.while.1; there = k.there })
     (λ t v k. record { while = (k.reached, k.not_left); there = k.there })
     (stay_answers q S (place point) p r there answer (λ e. i.0 (when.0 e), λ m. when.1 (i.1 m)) h)
+
+-- ---- listed in the period, and not in the rectangle
+pub point_outside : (point : Point) (p : Span) (r : Area) → HasInstant p → first_whole p ≤ point.t → point.t ≤ last_whole p →
+    ¬ Inside (place point) r → AnswersQuestion Ever (AtPoint point) p r No
+point_outside point p r has from over n = point_answers Ever point p r true No has (λ _. (from, over), λ _. refl) (refl, n)
+
+pub held_outside : (point next : Point) (p : Span) (r : Area) → point.t < next.t → HasInstant p → first_whole p ≤ point.t →
+    point.t ≤ last_whole p → ¬ Inside (place point) r → AnswersQuestion Ever (HeldUntil point next) p r No
+held_outside point next p r later has from over n =
+    let begun = first_then p point.t from in
+    held_answers Ever point next p r true No later has (λ _. (over, omega (arith, begun, later)), λ _. refl) (refl, n)
 
 -- a listed position lies in a rectangle
 pub inside_numbers : (point : Point) (r : Area) →

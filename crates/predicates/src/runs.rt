@@ -1,6 +1,6 @@
 //! Pieces in succession that answer the same.
 
-ghost use Rattle.std.specs.Prelude.{ℕ, ◌<◌, ◌≤◌, length};
+ghost use Rattle.std.specs.Prelude.{◌≡◌, ℕ, ◌<◌, ◌≤◌, length};
 ghost use Rattle.tpoint.specs.Places.{EachAt};
 ghost use Rattle.tpoint.specs.Moving.{Rises, InBounds};
 ghost use Rattle.tpoint.specs.Extents.{first_whole};
@@ -25,7 +25,8 @@ pub struct Run {
 
 /// The run of pieces from a place on, of which there is at least one.
 ///
-/// Legs within the period that don't decide are passed at a stride. Any other piece is a run by itself.
+/// Legs within the period that don't decide are passed at a stride, and so are positions that stay, where `ever` is asked. Any
+/// other piece is a run by itself.
 #[inline(always)]
 pub fn run_from(
     question: Question,
@@ -57,8 +58,8 @@ pub fn run_from(
     }
 }
 
-/// The first leg from a place on that decides, or may go on outside the period. Those before it answer
-/// as legs do that their ends settle.
+/// The first piece from a place on that may decide, or go on outside the period. Those before it answer as legs do that their
+/// ends settle.
 #[inline(always)]
 fn passed(
     question: Question,
@@ -75,13 +76,52 @@ fn passed(
     ensures each { (j : ℕ) → from ≤ j → j < result →
         AnswersQuestion question (OnPiece interp points.now j) period.now area.now (settled question) }
 {
-    if interp != Interp::Linear || points[from].t < period.first_whole() {
+    if points[from].t < period.first_whole() {
         return from;
     }
     match question {
-        Question::Ever => first_met(points, from, period, area),
-        Question::Always => first_left(points, from, period, area),
+        Question::Ever => {
+            if interp == Interp::Linear {
+                first_met(points, from, period, area)
+            } else {
+                first_inside(interp, points, from, period, area)
+            }
+        }
+        Question::Always => {
+            if interp != Interp::Linear {
+                return from;
+            }
+            first_left(points, from, period, area)
+        }
     }
+}
+
+/// The first position from a place on that is listed after the period or in the rectangle. Each of them stays as it is listed.
+#[inline(always)]
+fn first_inside(
+    interp: Interp,
+    points: &[Point],
+    from: usize,
+    period: &Period,
+    area: &Rect,
+) -> usize
+    requires stays { ¬ (interp ≡ Interp.Linear) }
+    requires increasing { (k : ℕ) → Rises points.now k }
+    requires begun { EachAt points.now (λ point. first_whole period.now ≤ point.t) from }
+    ensures within { result ≤ length points.now }
+    ensures each { (j : ℕ) → from ≤ j → j < result →
+        AnswersQuestion Question.Ever (OnPiece interp points.now j) period.now area.now Tri.No }
+{
+    for k in from..points.len() {
+        let point = &points[k];
+        if period.last_whole() < point.t {
+            return k;
+        }
+        if contains(area, point) {
+            return k;
+        }
+    }
+    points.len()
 }
 
 /// The first leg that goes on after the period or comes into the rectangle, of those from a place on.
