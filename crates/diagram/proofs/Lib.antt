@@ -1,3 +1,4 @@
 pub mod ArrowLists
 pub mod DrawnLemmas
 pub mod Drawings
+pub mod ShownLemmas

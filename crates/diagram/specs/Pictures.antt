@@ -4,7 +4,8 @@ use Rattle.picture.specs.Elements.{picture_begun, picture_ended}
 use Rattle.wire.specs.declared.frames.envelope.Envelope.{Envelope}
 use Rattle.diagram.specs.Arrows.{AreArrows}
 use Rattle.diagram.specs.Facts.{facts_of, frame_text}
-use Rattle.diagram.specs.Titles.{Draws}
+use Rattle.diagram.specs.Shown.{DrawsMarks}
+use Rattle.diagram.specs.Titles.{Draws, Group, frame_group}
 use Rattle.diagram.specs.Windows.{IsChosen}
 use Rattle.diagram.specs.declared.arrows.Arrow.{Arrow}
 use Rattle.diagram.specs.declared.arrows.Fate.{Fate}
@@ -30,6 +31,9 @@ title_by arrow (Some frame) = title_text arrow (facts_of frame.message)
 abbrev pub title_in : List Envelope → Arrow → List ℕ
 title_in frames arrow = title_by arrow (slice_get frames arrow.frame)
 
+abbrev pub group_in : List Envelope → Arrow → Group
+group_in frames arrow = frame_group (title_in frames arrow)
+
 -- the frame of an arrow is there
 pub record IsThere (frames : List Envelope) (arrow : Arrow) : Type 0 where
   pub frame : Envelope
@@ -42,15 +46,18 @@ pub record AreThere (frames : List Envelope) (arrows : List Arrow) : Type 0 wher
 pub record DrawsFrames (s : Scene) (window : Window) (old new : List ℕ) : Type 0 where
   pub arrows : List Arrow
   pub are : AreArrows s.frames.now s.waiting.now s.passages.now window.first window.end arrows
-  pub drawn : Draws old (map (title_in s.frames.now) arrows) new
+  pub drawn : Draws old (map (group_in s.frames.now) arrows) new
 
--- the text is a picture of so many units, in its style, and in it these frames are drawn, each once, and no other one
+-- the text is a picture of so many units, in its style, and in it these frames are drawn, and behind them the marks, each once, and no
+-- other one
 pub record AreDrawn (s : Scene) (window : Window) (text : List ℕ) : Type 0 where
   pub width : ℕ
   pub height : ℕ
   pub style : List ℕ
+  pub behind_frames : List ℕ
+  pub frames : DrawsFrames s window (picture_begun width height style) behind_frames
   pub body : List ℕ
-  pub drawn : DrawsFrames s window (picture_begun width height style) body
+  pub marks : DrawsMarks s window behind_frames body
   pub is : text ≡ body ++ picture_ended
 
 -- there is a flag and a passage for each frame

@@ -4,8 +4,8 @@
 
 ghost use Rattle.std.specs.Prelude.{◌≡◌, [], ◌∷◌, ◌++◌, ◌≤◌, ◌↔◌, IsTrue, OnOk, length, map};
 ghost use Rattle.diagram.specs.Facts.{facts_of};
-ghost use Rattle.diagram.specs.Pictures.{AreThere, DrawsFrames, IsThere, IsWhole, fate_text, title_in, title_text};
-ghost use Rattle.diagram.specs.Titles.{Draws};
+ghost use Rattle.diagram.specs.Pictures.{AreThere, DrawsFrames, IsThere, IsWhole, fate_text, group_in, title_text};
+ghost use Rattle.diagram.specs.Titles.{Draws, frame_group};
 
 use super::arrows::{Arrow, Fate, list_arrows};
 use super::colors::color_of;
@@ -66,7 +66,7 @@ fn draw_all(
     layout: &Layout,
 ) -> io::Result<()>
     ensures { OnOk result (AreThere scene.now.frames.now arrows.now
-        → Draws picture.old (map (title_in scene.now.frames.now) arrows.now) picture.new) }
+        → Draws picture.old (map (group_in scene.now.frames.now) arrows.now) picture.new) }
 {
     let mut ballots = Vec::new(alloc);
     let mut free = [0; 7];
@@ -95,7 +95,7 @@ fn draw_next(
     free: &mut [u32; 7],
 ) -> io::Result<()>
     ensures { OnOk result (IsThere scene.now.frames.now arrow.now
-        → Draws picture.old (title_in scene.now.frames.now arrow.now ∷ []) picture.new) }
+        → Draws picture.old (group_in scene.now.frames.now arrow.now ∷ []) picture.new) }
 {
     match scene.frames.get(arrow.frame) {
         Some(frame) => draw_sent(
@@ -123,7 +123,7 @@ fn draw_sent(
     ballots: &mut Vec<Ballot>,
     free: &mut [u32; 7],
 ) -> io::Result<()>
-    ensures { OnOk result (Draws picture.old (title_text arrow.now (facts_of frame.now.message) ∷ []) picture.new) }
+    ensures { OnOk result (Draws picture.old (frame_group (title_text arrow.now (facts_of frame.now.message)) ∷ []) picture.new) }
 {
     let facts = facts_of(&frame.open(alloc)?.message);
     let color = color_of(ballots, facts.ballot)?;
@@ -141,7 +141,7 @@ fn draw_frame(
     color: usize,
     layout: &Layout,
 ) -> io::Result<()>
-    ensures { OnOk result (Draws picture.old (title_text arrow.now facts.now ∷ []) picture.new) }
+    ensures { OnOk result (Draws picture.old (frame_group (title_text arrow.now facts.now) ∷ []) picture.new) }
 {
     open_frame(alloc, picture, arrow, facts)?;
     draw_arrow(picture, nodes, arrow, color, layout)?;
@@ -150,7 +150,7 @@ fn draw_frame(
 
 /// The group of a frame begins, with its title.
 fn open_frame(alloc: Global, picture: &mut Picture, arrow: &Arrow, facts: &Facts) -> io::Result<()>
-    ensures { OnOk result (Draws picture.old (title_text arrow.now facts.now ∷ []) picture.new) }
+    ensures { OnOk result (Draws picture.old (frame_group (title_text arrow.now facts.now) ∷ []) picture.new) }
 {
     let mut title = Vec::new(alloc);
     push_frame(&mut title, arrow.frame, arrow.from, arrow.to, facts)?;

@@ -1,6 +1,7 @@
 //! Which frames are drawn, and how high each step stands.
 
-ghost use Rattle.std.specs.Prelude.{◌+◌, ◌≤◌, length, IfOk};
+ghost use Rattle.std.specs.Prelude.{◌≡◌, ◌+◌, ◌<◌, ◌≤◌, length, slice_index_or, slice_set, true, IfOk};
+ghost use Rattle.diagram.specs.Shown.{AreFlagged, KeepsFlags, MarksStand, StandWhereSet, first_step, last_step, sent_at};
 ghost use Rattle.diagram.specs.Windows.{IsChosen, IsWindowOf};
 
 use super::arrows::Passage;
@@ -82,27 +83,53 @@ fn fit_page(alloc: Global, scene: &Scene, first: usize, most: usize) -> Result<W
 }
 
 /// How high the steps stand of which the window shows something.
-pub(crate) fn lay_out(alloc: Global, scene: &Scene, window: Window) -> Result<Layout, AllocError> {
+pub(crate) fn lay_out(alloc: Global, scene: &Scene, window: Window) -> Result<Layout, AllocError>
+    ensures { IfOk result (λ layout. MarksStand scene.now window layout.ends.items) }
+{
     let mut texts = vec![in alloc; 0u32; scene.steps.saturating_add(1)]?;
     let mut shown = vec![in alloc; false; scene.steps.saturating_add(1)]?;
     show_passages(&mut shown, scene, window);
     let (first, last) = steps_of(scene, window);
-    for mark in scene.marks {
-        if first <= mark.step && mark.step <= last {
-            set_flag(&mut shown, mark.step);
-        }
-    }
-    for label in scene.labels {
-        if first <= label.step && label.step <= last {
-            set_flag(&mut shown, label.step);
-            add_text(&mut texts, label.step);
-        }
-    }
+    show_marks(&mut shown, scene, first, last);
+    show_labels(&mut shown, &mut texts, scene, first, last);
     stack(alloc, texts, shown)
 }
 
+/// Every step between these at which a mark stands is shown.
+fn show_marks(shown: &mut Vec<bool>, scene: &Scene, first: usize, last: usize)
+    ensures long { length shown.new.items ≡ length shown.old.items }
+    ensures flagged { AreFlagged scene.now.marks.now first last shown.new.items }
+{
+    for mark in scene.marks {
+        if first <= mark.step && mark.step <= last {
+            set_flag(shown, mark.step);
+        }
+    }
+}
+
+/// Every step between these at which a line of the schedule begins is shown, with its texts.
+fn show_labels(
+    shown: &mut Vec<bool>,
+    texts: &mut Vec<u32>,
+    scene: &Scene,
+    first: usize,
+    last: usize,
+)
+    ensures keeps { KeepsFlags shown.old.items shown.new.items }
+    ensures long { length texts.new.items ≡ length texts.old.items }
+{
+    for label in scene.labels {
+        if first <= label.step && label.step <= last {
+            set_flag(shown, label.step);
+            add_text(texts, label.step);
+        }
+    }
+}
+
 /// Every step at which a frame of the window was sent or came is shown.
-fn show_passages(shown: &mut Vec<bool>, scene: &Scene, window: Window) {
+fn show_passages(shown: &mut Vec<bool>, scene: &Scene, window: Window)
+    ensures { length shown.new.items ≡ length shown.old.items }
+{
     for number in window.first..window.end {
         if let Some(passage) = scene.passages.get(number) {
             set_flag(shown, passage.sent);
@@ -115,7 +142,10 @@ fn show_passages(shown: &mut Vec<bool>, scene: &Scene, window: Window) {
 
 /// The first and the last step of which labels and marks are drawn: those between which the window's frames were sent, and all that is
 /// before the first frame, or after the last.
-fn steps_of(scene: &Scene, window: Window) -> (usize, usize) {
+fn steps_of(scene: &Scene, window: Window) -> (usize, usize)
+    ensures first { result.0 ≡ first_step scene.now window }
+    ensures last { result.1 ≡ last_step scene.now window }
+{
     let first = if window.first == 0 {
         0
     } else {
@@ -130,43 +160,69 @@ fn steps_of(scene: &Scene, window: Window) -> (usize, usize) {
 }
 
 /// The step at which a frame was sent.
-fn sent_at(passages: &[Passage], number: usize) -> usize {
+fn sent_at(passages: &[Passage], number: usize) -> usize
+    ensures { result ≡ sent_at passages.now number }
+{
     match passages.get(number) {
         Some(passage) => passage.sent,
         None => 0,
     }
 }
 
-fn set_flag(flags: &mut Vec<bool>, index: usize) {
-    if let Some(flag) = flags.get_mut(index) {
-        *flag = true;
+fn set_flag(flags: &mut Vec<bool>, index: usize)
+    ensures { flags.new.items ≡ slice_set flags.old.items index true }
+{
+    if index < flags.len() {
+        flags[index] = true;
     }
 }
 
-fn add_text(texts: &mut Vec<u32>, index: usize) {
-    if let Some(count) = texts.get_mut(index) {
-        *count = count.saturating_add(1);
+fn add_text(texts: &mut Vec<u32>, index: usize)
+    ensures { length texts.new.items ≡ length texts.old.items }
+{
+    if index < texts.len() {
+        texts[index] = texts[index].saturating_add(1);
     }
 }
 
 /// The steps that are shown, one below the other.
-fn stack(alloc: Global, texts: Vec<u32>, shown: Vec<bool>) -> Result<Layout, AllocError> {
+fn stack(alloc: Global, texts: Vec<u32>, shown: Vec<bool>) -> Result<Layout, AllocError>
+    requires { length texts.items ≡ length shown.items }
+    ensures { IfOk result (λ layout. StandWhereSet shown.items layout.ends.items) }
+{
     let bare = bare_row(texts.as_slice(), shown.as_slice());
     let mut ends = Vec::new(alloc);
     let mut height = TOP;
-    for (count, is_shown) in texts.iter().zip(shown.iter()) {
-        if *is_shown {
-            height = height.saturating_add(row_of(*count, bare));
-            ends.push(height)?;
-        } else {
-            ends.push(0)?;
-        }
+    for index in 0..shown.len() {
+        let is_shown = shown[index];
+        height = stand_below(height, is_shown, row_of(texts[index], bare));
+        ends.push(place_if(is_shown, height))?;
     }
     Ok(Layout {
         texts,
         ends,
         height,
     })
+}
+
+/// How far it is down to the end of a step that begins there, if it is shown.
+fn stand_below(height: u32, is_shown: bool, row: u32) -> u32
+    requires { 0 < height }
+    ensures { 0 < result }
+{
+    if is_shown {
+        height.saturating_add(row)
+    } else {
+        height
+    }
+}
+
+/// Where a step ends that is shown; 0 for another.
+fn place_if(is_shown: bool, height: u32) -> u32
+    requires { 0 < height }
+    ensures { is_shown ≡ true → 0 < result }
+{
+    if is_shown { height } else { 0 }
 }
 
 /// The height of a step with so many lines of text.
@@ -196,7 +252,9 @@ fn bare_row(texts: &[u32], shown: &[bool]) -> u32 {
 
 impl Layout {
     /// Where a step stands.
-    pub fn place_of(&self, step: usize) -> u32 {
+    pub fn place_of(&self, step: usize) -> u32
+        ensures { result ≡ slice_index_or self.now.ends.items step 0 }
+    {
         self.ends.get(step).copied().unwrap_or(0)
     }
 

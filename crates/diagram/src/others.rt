@@ -1,4 +1,4 @@
-//! What a picture has beside the groups of its frames. It is all drawn by these functions, whose clauses say that no frame's group begins.
+//! What a picture has beside its groups. It is all drawn by these functions, whose clauses say that no group begins.
 
 ghost use Rattle.std.specs.Prelude.{[], OnOk};
 ghost use Rattle.diagram.specs.Titles.{Draws};
@@ -49,13 +49,6 @@ pub(crate) fn words(picture: &mut Picture, class: &[u8], at: Place, text: &[u8])
     ensures { OnOk result (Draws picture.old [] picture.new) }
 {
     picture.text(class, at, text)
-}
-
-/// The group of a mark begins, with its title.
-pub(crate) fn open_mark(picture: &mut Picture, title: &[u8]) -> io::Result<()>
-    ensures { OnOk result (Draws picture.old [] picture.new) }
-{
-    picture.open(b"mark", title)
 }
 
 /// A group ends.

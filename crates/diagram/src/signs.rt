@@ -2,8 +2,9 @@
 
 #![tactic(auto, using(crate::proofs::Drawings::others_not, crate::proofs::Drawings::then_others))]
 
-ghost use Rattle.std.specs.Prelude.{[], OnOk};
-ghost use Rattle.diagram.specs.Titles.{Draws};
+ghost use Rattle.std.specs.Prelude.{[], ◌∷◌, OnOk};
+ghost use Rattle.diagram.specs.Shown.{DrawsStanding, Stands};
+ghost use Rattle.diagram.specs.Titles.{Draws, mark_group};
 
 use super::layout::Layout;
 use super::others;
@@ -17,7 +18,7 @@ const SIGNS: u32 = 3_400;
 
 /// The signs on the lanes. Several of one node at one step stand beside each other.
 pub(crate) fn draw_marks(picture: &mut Picture, scene: &Scene, layout: &Layout) -> io::Result<()>
-    ensures { OnOk result (Draws picture.old [] picture.new) }
+    ensures { OnOk result (DrawsStanding layout.now.ends.items scene.now.marks.now picture.old picture.new) }
 {
     let mut step = 0;
     let mut lanes = [0u32; 7];
@@ -26,25 +27,38 @@ pub(crate) fn draw_marks(picture: &mut Picture, scene: &Scene, layout: &Layout) 
             step = mark.step;
             lanes = [0; 7];
         }
-        let y = layout.place_of(step);
-        if let Some(before) = lanes.get_mut(usize::from(mark.node.value())) {
-            if y > 0 {
-                let x = lane(scene.nodes, mark.node.value()).saturating_add(before.saturating_mul(
-                    SIGNS,
-                ));
-                draw_mark(picture, mark, Place { x, y })?;
-                *before = before.saturating_add(1);
-            }
-        }
+        draw_next(picture, scene.nodes, mark, layout, &mut lanes)?;
     }
     Ok(())
 }
 
+/// The next sign, if its step is shown. So many stand on the lanes of its step already.
+fn draw_next(
+    picture: &mut Picture,
+    nodes: u8,
+    mark: &Mark,
+    layout: &Layout,
+    lanes: &mut [u32; 7],
+) -> io::Result<()>
+    ensures stands { OnOk result (Stands layout.now.ends.items mark.now.step → Draws picture.old (mark_group mark.now ∷ []) picture.new) }
+    ensures left_out { OnOk result (¬ (Stands layout.now.ends.items mark.now.step) → Draws picture.old [] picture.new) }
+{
+    let y = layout.place_of(mark.step);
+    if y == 0 {
+        return Ok(());
+    }
+    let node = mark.node.value();
+    let before = lanes[usize::from(node)];
+    lanes[usize::from(node)] = before.saturating_add(1);
+    let x = lane(nodes, node).saturating_add(before.saturating_mul(SIGNS));
+    draw_mark(picture, mark, Place { x, y })
+}
+
 /// A sign, and its note.
 fn draw_mark(picture: &mut Picture, mark: &Mark, at: Place) -> io::Result<()>
-    ensures { OnOk result (Draws picture.old [] picture.new) }
+    ensures { OnOk result (Draws picture.old (mark_group mark.now ∷ []) picture.new) }
 {
-    others::open_mark(picture, mark.title.as_slice())?;
+    open_mark(picture, mark)?;
     draw_sign(picture, mark.sign, at)?;
     let beside = Place {
         x: at.x.saturating_add(350),
@@ -52,6 +66,13 @@ fn draw_mark(picture: &mut Picture, mark: &Mark, at: Place) -> io::Result<()>
     };
     others::words(picture, b"note", beside, mark.note.as_slice())?;
     others::close(picture)
+}
+
+/// The group of a mark begins, with its title.
+fn open_mark(picture: &mut Picture, mark: &Mark) -> io::Result<()>
+    ensures { OnOk result (Draws picture.old (mark_group mark.now ∷ []) picture.new) }
+{
+    picture.open(b"mark", mark.title.as_slice())
 }
 
 /// The shape of a sign.

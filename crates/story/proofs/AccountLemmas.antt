@@ -3,8 +3,9 @@ use Rattle.std.proofs.Common.{◌≡◌, ℕ, ◌+◌, ◌==◌, ◌<◌, ◌≤
 use Rattle.std.proofs.lemmas.List.{take_more}
 use Rattle.world.specs.Seen.{world_of}
 use Rattle.story.specs.Accounts.{AreWritten, next, and_frame, at_line, entry_lines, item_lines, line_lines, place_after, sent_lines}
-use Rattle.story.specs.Lines.{AddsLines, none}
-use Rattle.story.specs.Saying.{count_begin, item_begin, line_begin, tells_item}
+use Rattle.story.specs.Happenings.{Happening, happening}
+use Rattle.story.specs.Lines.{AddsLines, Saying, none, text_at}
+use Rattle.story.specs.Saying.{count_said, item_said, line_said}
 use Rattle.story.specs.declared.account.Manner.{Manner}
 use Rattle.story.specs.declared.account.Place.{Place}
 use Rattle.story.specs.declared.entries.Entry.{Entry}
@@ -15,15 +16,15 @@ use Rattle.story.specs.declared.writer.Form.{Form}
 use Rattle.story.proofs.LineLemmas.{lines_on}
 
 -- the next entry has its lines behind those before it
-pub next_written : (m : Manner) (l : Ledger) (es : List Entry) (i : ℕ) (e : Entry) (place after : Place) (old new : List ℕ)
-    → i < length es → e ≡ get_or es i e → AreWritten m l (take i es) place old → AddsLines old (entry_lines m l place e) new
-    → after ≡ place_after m l place e → AreWritten m l (take (i + 1) es) after new
-next_written m l es i e place after old new below read written adds is =
-    let here : AreWritten m l (take i es ++ e ∷ []) (place_after m l place e) new = next (take i es) e place old new written adds in
+pub next_written : (m : Manner) (l : Ledger) (texts : List (List ℕ)) (es : List Entry) (i : ℕ) (e : Entry) (place after : Place) (old new : List ℕ)
+    → i < length es → e ≡ get_or es i e → AreWritten m l texts (take i es) place old → AddsLines old (entry_lines m l texts place e) new
+    → after ≡ place_after m l place e → AreWritten m l texts (take (i + 1) es) after new
+next_written m l texts es i e place after old new below read written adds is =
+    let here : AreWritten m l texts (take i es ++ e ∷ []) (place_after m l place e) new = next (take i es) e place old new written adds in
     let more : take (i + 1) es ≡ take i es ++ e ∷ [] =
     subst (λ (x : Entry). take (i + 1) es ≡ take i es ++ x ∷ []) (sym read) (take_more es i e below) in
-    subst (λ (p : Place). AreWritten m l (take (i + 1) es) p new) (sym is)
-    (subst (λ (xs : List Entry). AreWritten m l xs (place_after m l place e) new) (sym more) here)
+    subst (λ (p : Place). AreWritten m l texts (take (i + 1) es) p new) (sym is)
+    (subst (λ (xs : List Entry). AreWritten m l texts xs (place_after m l place e) new) (sym more) here)
 
 -- at most one frame more waits to be told
 by_line : (place : Place) (o : Option LineBegin) → (at_line place o).sent ≤ place.sent + 1
@@ -52,48 +53,39 @@ few_sent m l place after e i few is =
 pub none_sent : (form : Form) (place : Place) (text : List ℕ) → place.sent ≡ 0 → AddsLines text (sent_lines form place) text
 none_sent form place text e = rw e none
 
-some_by : (b : Bool) (begin old new : List ℕ) → b ≡ false → AddsLines old (begin ∷ []) new
-    → AddsLines old (if b then [] else begin ∷ []) new
-some_by true begin old new e adds = absurd (cc)
-some_by false begin old new e adds = adds
+some_by : (b : Bool) (said : Saying) (old new : List ℕ) → b ≡ false → AddsLines old (said ∷ []) new
+    → AddsLines old (if b then [] else said ∷ []) new
+some_by true said old new e adds = absurd (cc)
+some_by false said old new e adds = adds
 
 pub some_sent : (form : Form) (place : Place) (old new : List ℕ) → (place.sent == 0) ≡ false
-    → AddsLines old (count_begin form place.line place.sent ∷ []) new → AddsLines old (sent_lines form place) new
+    → AddsLines old (count_said form place.line place.first place.sent ∷ []) new → AddsLines old (sent_lines form place) new
 some_sent form place old new e adds =
-    some_by (place.sent == 0) (count_begin form place.line place.sent) old new e adds
+    some_by (place.sent == 0) (count_said form place.line place.first place.sent) old new e adds
 
 -- ---- what came of a step
-told_if : (b : Bool) (begin old new : List ℕ) → true ≡ b → AddsLines old (begin ∷ []) new
-    → AddsLines old (if b then begin ∷ [] else []) new
-told_if true begin old new e adds = adds
-told_if false begin old new e adds = absurd (cc)
+pub item_told : (form : Form) (line : ℕ) (o : Option Happening) (h : Happening) (old new : List ℕ) → Some h ≡ o
+    → AddsLines old (item_said form line h ∷ []) new → AddsLines old (item_lines form line o) new
+item_told form line o h old new e adds = subst (λ (x : Option Happening). AddsLines old (item_lines form line x) new) e adds
 
-untold_if : (b : Bool) (begin text : List ℕ) → false ≡ b → AddsLines text (if b then begin ∷ [] else []) text
-untold_if true begin text e = absurd (cc)
-untold_if false begin text e = none
-
-pub item_told : (form : Form) (line : ℕ) (tells : Bool) (old new : List ℕ) → true ≡ tells
-    → AddsLines old (item_begin form line ∷ []) new → AddsLines old (item_lines form line tells) new
-item_told form line tells old new e adds = told_if tells (item_begin form line) old new e adds
-
-pub no_item : (form : Form) (line : ℕ) (tells : Bool) (text : List ℕ) → false ≡ tells → AddsLines text (item_lines form line tells) text
-no_item form line tells text e = untold_if tells (item_begin form line) text e
+pub no_item : (form : Form) (line : ℕ) (o : Option Happening) (text : List ℕ) → None ≡ o → AddsLines text (item_lines form line o) text
+no_item form line o text e = subst (λ (x : Option Happening). AddsLines text (item_lines form line x) text) e none
 
 -- ---- a line of the schedule
-pub line_begun : (form : Form) (place : Place) (o : Option LineBegin) (l : LineBegin) (old now new : List ℕ) → o ≡ Some l
-    → AddsLines old (sent_lines form place) now → AddsLines now (line_begin form l.number ∷ []) new
-    → AddsLines old (sent_lines form place ++ line_lines form o) new
-line_begun form place o l old now new at one two =
-    subst (λ (x : Option LineBegin). AddsLines old (sent_lines form place ++ line_lines form x) new) (sym at)
-    (lines_on old now (sent_lines form place) (line_begin form l.number ∷ []) new one two)
+pub line_begun : (form : Form) (texts : List (List ℕ)) (place : Place) (o : Option LineBegin) (l : LineBegin) (old now new : List ℕ) → o ≡ Some l
+    → AddsLines old (sent_lines form place) now → AddsLines now (line_said form l.number (text_at texts l.number) ∷ []) new
+    → AddsLines old (sent_lines form place ++ line_lines form texts o) new
+line_begun form texts place o l old now new at one two =
+    subst (λ (x : Option LineBegin). AddsLines old (sent_lines form place ++ line_lines form texts x) new) (sym at)
+    (lines_on old now (sent_lines form place) (line_said form l.number (text_at texts l.number) ∷ []) new one two)
 
 -- ---- a frame that is to be told as a number
-if_not : (b : Bool) (begins : List (List ℕ)) (text : List ℕ) → b ≡ false → AddsLines text (if b then begins else []) text
-if_not true begins text e = absurd (cc)
-if_not false begins text e = none
+if_not : (b : Bool) (sayings : List Saying) (text : List ℕ) → b ≡ false → AddsLines text (if b then sayings else []) text
+if_not true sayings text e = absurd (cc)
+if_not false sayings text e = none
 
-pub not_told : (m : Manner) (l : Ledger) (place : Place) (e : Entry) (k : ℕ) (text : List ℕ) → e ≡ Frame k → m.frames ≡ false
-    → AddsLines text (entry_lines m l place e) text
-not_told m l place e k text is by_number =
-    subst (λ (x : Entry). AddsLines text (entry_lines m l place x) text) (sym is)
-    (if_not m.frames (item_lines m.form place.line (tells_item (world_of l.world) (Frame k))) text by_number)
+pub not_told : (m : Manner) (l : Ledger) (texts : List (List ℕ)) (place : Place) (e : Entry) (k : ℕ) (text : List ℕ) → e ≡ Frame k
+    → m.frames ≡ false → AddsLines text (entry_lines m l texts place e) text
+not_told m l texts place e k text is by_number =
+    subst (λ (x : Entry). AddsLines text (entry_lines m l texts place x) text) (sym is)
+    (if_not m.frames (item_lines m.form place.line (happening (world_of l.world) (Frame k))) text by_number)

@@ -17,10 +17,14 @@ use Rattle.world_model.proofs.Progress.RoundLemmas.{call_keeps}
 use Rattle.schedule.specs.declared.action.Action.{Action}
 use Rattle.schedule.specs.declared.action.Action.TheVariants.{Step, Flush, Round}
 use Rattle.replay.specs.Runs.{ActionIsDone, ActionIsRefused}
+use Rattle.diagram.specs.declared.arrows.Passage.{Passage}
 use Rattle.story.specs.declared.ledger.Counts.{Counts}
+use Rattle.story.specs.declared.ledger.Step.{Step as AStep}
 use Rattle.story.specs.Counted.{AreWithin}
 use Rattle.story.specs.Ledgers.{AreSearched, counts_of}
+use Rattle.story.specs.Passing.{AreSent}
 use Rattle.story.proofs.LedgerLemmas.{same_below}
+use Rattle.story.proofs.SendingLemmas.{sent_still}
 
 -- what every step and every told outcome keep, a line keeps, be it done or not
 module _ {S : Type 0} {storages : Ghosts (Script S)} (Kept : WorldState S → Type 0) (kept : Preserved storages Kept)
@@ -113,6 +117,31 @@ module _ {S : Type 0} (c : Counts) where
     pub refused_has : (action : Action) (old : WorldState S) (f : WorldFault) (new : WorldState S)
         → ActionIsRefused storages action old f new → Has old → Has new
     refused_has action old f new h before = stop_has Has (all_kept storages) with_more action old f new h before
+
+-- ---- when the frames were sent
+module _ {S : Type 0} (steps : List AStep) (passages : List Passage) where
+  abbrev Sent : WorldState S → Type 0
+  Sent w = AreSent w.frames steps passages
+
+  sent_kept : (storages : Ghosts (Script S)) → Preserved storages Sent
+  sent_kept storages = record {
+    takes = λ w node i taken v h said is fits before. sent_still w.frames said.sends steps passages before;
+    fails = λ w node i taken v h f is before. before;
+    submits = λ w s sound before. before;
+    unwaits = λ w k before. before;
+    says = λ w o brings before. before;
+    restarts = λ w node v h before. before;
+    arms = λ w node failing n here before. before;
+    answers = λ w node query v h told is before. before;
+  }
+
+  module _ (storages : Ghosts (Script S)) where
+    pub done_sent : (action : Action) (old new : WorldState S) → ActionIsDone storages action old new → Sent old → Sent new
+    done_sent action old new h before = line_has Sent (sent_kept storages) (λ w o kept. kept) action old new h before
+
+    pub refused_sent : (action : Action) (old : WorldState S) (f : WorldFault) (new : WorldState S)
+        → ActionIsRefused storages action old f new → Sent old → Sent new
+    refused_sent action old f new h before = stop_has Sent (sent_kept storages) (λ w o kept. kept) action old f new h before
 
 -- ---- the frames that wait
 set_length : {A : Type 0} (xs : List A) (k : ℕ) (x : A) → length (slice_set xs k x) ≡ length xs

@@ -3,7 +3,9 @@ pub mod FollowLemmas
 pub mod Growing
 pub mod LedgerLemmas
 pub mod LineLemmas
+pub mod MarkLemmas
 pub mod NotingLemmas
 pub mod PassingLemmas
+pub mod RangeLemmas
 pub mod SendingLemmas
 pub mod TellingLemmas

@@ -1,30 +1,53 @@
--- Lines, one behind another, and what they begin with.
-use Rattle.std.proofs.Common.{◌≡◌, ◌≢◌, ◌==◌, ℕ, Bool, true, false, Result, Ok, Err, IfOk, List, [], ◌∷◌, ◌++◌, All, if◌then◌else◌, refl, sym, ap, ◌∙◌, subst, append_assoc, append-nil}
+-- Lines, one behind another, and what they say.
+use Rattle.std.proofs.Common.{◌≡◌, ◌≢◌, ◌==◌, ◌+◌, ◌-◌, ◌^◌, ℕ, Bool, true, false, Result, OnOk, Bor, List, [], ◌∷◌, ◌++◌, All, decimal, map, if◌then◌else◌, lit<, refl, sym, ap, ◌∙◌, subst, append_assoc, append-nil}
+use Rattle.std.proofs.Padding.{padded_integral_right}
 use Rattle.std.proofs.lemmas.Bool.{eqb-false}
 use Rattle.std.proofs.lemmas.List.Elements.{All-nil, All-cons}
-use Rattle.picture.specs.Growing.{Grows}
-use Rattle.story.specs.Lines.{AddsLines, GrowsBy, IsLine, in_one_line, none, next, shown}
+use Rattle.std.proofs.lemmas.Result.{on_ok_weaker}
+use Rattle.std.specs.Fmt.{format_spec, styled_decimal}
+use Rattle.schedule.specs.Lines.{NumberedText, numbered}
+use Rattle.story.specs.Lines.{AddsLines, IsLine, Saying, Says, in_one_line, none, next, shown, texts_in}
+use Rattle.story.specs.Saying.{right_aligned}
 
--- ---- what a text begins with
-pub begins_with : (begin said old new : List ℕ) → new ≡ old ++ said → said ≡ begin → GrowsBy begin old new
-begins_with begin said old new is e = record {
-  more = [];
-  is = is ∙ ap (λ (t : List ℕ). old ++ t) (e ∙ sym (append-nil begin));
-}
+-- ---- texts that grow
+-- what was added is what is said
+said_by : (said added old new : List ℕ) → added ≡ said → new ≡ old ++ added → new ≡ old ++ said
+said_by said added old new e is = is ∙ ap (λ (t : List ℕ). old ++ t) e
 
-pub begins_so : (begin said old now new : List ℕ) → now ≡ old ++ said → said ≡ begin → Grows now new → GrowsBy begin old new
-begins_so begin said old now new is e grown = record {
-  more = grown.more;
-  is = grown.is ∙ ap (λ (t : List ℕ). t ++ grown.more) (is ∙ ap (λ (t : List ℕ). old ++ t) e) ∙ append_assoc old begin grown.more;
-}
+pub said_so : {T E : Type 0} (r : Result T E) (said added old new : List ℕ) → OnOk r (new ≡ old ++ added) → added ≡ said
+    → OnOk r (new ≡ old ++ said)
+said_so r said added old new is e = on_ok_weaker r (said_by said added old new e) is
 
--- any text begins with nothing
-pub begins_any : (new : List ℕ) → GrowsBy [] [] new
-begins_any new = record { more = new; is = refl }
+-- it was added in two parts
+pub two_parts : (first second old now new : List ℕ) → now ≡ old ++ first → new ≡ now ++ second → new ≡ old ++ (first ++ second)
+two_parts first second old now new one two =
+    two ∙ ap (λ (t : List ℕ). t ++ second) one ∙ append_assoc old first second
 
-pub begins_in : {T E : Type 0} (r : Result T E) (text_of : T → List ℕ) → IfOk r (λ t. GrowsBy [] [] (text_of t))
-begins_in (Ok t) text_of = begins_any (text_of t)
-begins_in (Err e) text_of = tt
+pub in_parts : {T E : Type 0} (r : Result T E) (said first second old now new : List ℕ) → now ≡ old ++ first
+    → OnOk r (new ≡ now ++ second) → first ++ second ≡ said → OnOk r (new ≡ old ++ said)
+in_parts r said first second old now new one two e =
+    said_so r said (first ++ second) old new (on_ok_weaker r (two_parts first second old now new one) two) e
+
+-- a number in six columns
+aligned_text : (n : ℕ) → styled_decimal (format_spec 32 3 0 6 (2 ^ 64 - 1)) n ≡ right_aligned n
+aligned_text n = padded_integral_right (format_spec 32 3 0 6 (2 ^ 64 - 1)) (decimal n) refl refl (λ e. cc) (λ e. cc) (lit< tt)
+
+pub aligned_written : (n : ℕ) (old new : List ℕ) → new ≡ old ++ styled_decimal (format_spec 32 3 0 6 (2 ^ 64 - 1)) n
+    → new ≡ old ++ right_aligned n
+aligned_written n old new is = is ∙ ap (λ (t : List ℕ). old ++ t) (aligned_text n)
+
+-- ---- the lines of a file
+-- the texts of texts that are numbered
+texts_numbered : (n : ℕ) (texts : List (List ℕ)) → map (λ (t : NumberedText). t.text) (numbered n texts) ≡ texts
+texts_numbered n [] = refl
+texts_numbered n (text ∷ texts) = ap (λ (ts : List (List ℕ)). text ∷ ts) (texts_numbered (n + 1) texts)
+
+-- no text is split off yet
+pub none_split : (bytes : List ℕ) (texts : List (Bor (List ℕ))) (lines : List NumberedText) → texts ≡ [] → lines ≡ numbered 1 (texts_in bytes)
+    → map (λ t. t.now) texts ++ map (λ (n : NumberedText). n.text) lines ≡ texts_in bytes
+none_split bytes texts lines empty all =
+    ap (λ (ts : List (Bor (List ℕ))). map (λ t. t.now) ts ++ map (λ (n : NumberedText). n.text) lines) empty
+    ∙ ap (λ (ls : List NumberedText). map (λ (n : NumberedText). n.text) ls) all ∙ texts_numbered 1 (texts_in bytes)
 
 -- ---- lines
 shown_by : (c : Bool) (b : ℕ) → (b == 10) ≡ c → (if c then 32 else b) ≢ 10
@@ -38,19 +61,20 @@ all_shown : (text : List ℕ) → All (λ b. b ≢ 10) (in_one_line text)
 all_shown [] = All-nil (λ b. b ≢ 10)
 all_shown (b ∷ text) = All-cons (λ x. x ≢ 10) (shown b) (in_one_line text) (no_feed b) (all_shown text)
 
-pub adds_line : (begin body said old new : List ℕ) → GrowsBy begin [] body → said ≡ body
-    → new ≡ old ++ (in_one_line said ++ 10 ∷ []) → AddsLines old (begin ∷ []) new
-adds_line begin body said old new grown same is =
-    let line : IsLine begin (in_one_line said ++ 10 ∷ []) = record {
-      rest = grown.more;
-      is = ap (λ (t : List ℕ). in_one_line t ++ 10 ∷ []) (same ∙ grown.is);
-      no_other = all_shown (begin ++ grown.more);
+pub adds_line : (said : Saying) (body added old new : List ℕ) → Says said body → added ≡ body
+    → new ≡ old ++ (in_one_line added ++ 10 ∷ []) → AddsLines old (said ∷ []) new
+adds_line said body added old new says same is =
+    let line : IsLine said (in_one_line added ++ 10 ∷ []) = record {
+      text = body;
+      says = says;
+      is = ap (λ (t : List ℕ). in_one_line t ++ 10 ∷ []) same;
+      no_other = all_shown body;
     } in
-    subst (λ (t : List ℕ). AddsLines old (begin ∷ []) t) (sym is) (next [] old begin (in_one_line said ++ 10 ∷ []) none line)
+    subst (λ (t : List ℕ). AddsLines old (said ∷ []) t) (sym is) (next [] old said (in_one_line added ++ 10 ∷ []) none line)
 
-pub lines_on : (old now : List ℕ) (begins more : List (List ℕ)) (new : List ℕ) → AddsLines old begins now → AddsLines now more new
-    → AddsLines old (begins ++ more) new
-lines_on old now begins _ _ one none = subst (λ (bs : List (List ℕ)). AddsLines old bs now) (sym (append-nil begins)) one
-lines_on old now begins _ _ one (next more mid begin line two is) =
-    subst (λ (bs : List (List ℕ)). AddsLines old bs (mid ++ line)) (append_assoc begins more (begin ∷ []))
-    (next (begins ++ more) mid begin line (lines_on old now begins more mid one two) is)
+pub lines_on : (old now : List ℕ) (sayings more : List Saying) (new : List ℕ) → AddsLines old sayings now → AddsLines now more new
+    → AddsLines old (sayings ++ more) new
+lines_on old now sayings _ _ one none = subst (λ (ss : List Saying). AddsLines old ss now) (sym (append-nil sayings)) one
+lines_on old now sayings _ _ one (next more mid said line two is) =
+    subst (λ (ss : List Saying). AddsLines old ss (mid ++ line)) (append_assoc sayings more (said ∷ []))
+    (next (sayings ++ more) mid said line (lines_on old now sayings more mid one two) is)

@@ -1,10 +1,12 @@
 -- What is written of a run: the lines of each entry of the list of what is told.
-use Rattle.std.specs.Prelude.{◌≡◌, ℕ, ◌+◌, ◌==◌, List, [], ◌∷◌, ◌++◌, Bool, Option, Some, None, length, slice_get, if◌then◌else◌}
+use Rattle.std.specs.Prelude.{◌≡◌, ℕ, ◌+◌, ◌==◌, List, [], ◌∷◌, ◌++◌, Option, Some, None, length, slice_get, if◌then◌else◌, Bool}
 use Rattle.schedule.specs.declared.replay_fault.ReplayFault.{ReplayFault}
 use Rattle.world.specs.Seen.{world_of}
 use Rattle.story.specs.Ledgers.{TellsRun}
-use Rattle.story.specs.Lines.{AddsLines}
-use Rattle.story.specs.Saying.{count_begin, fault_begins, item_begin, line_begin, tells_item}
+use Rattle.story.specs.Happenings.{Happening, happening}
+use Rattle.story.specs.Lines.{AddsLines, Saying, text_at, texts_in}
+use Rattle.story.specs.Ranges.{ranges_of}
+use Rattle.story.specs.Saying.{count_said, fault_said, item_said, line_said}
 use Rattle.story.specs.declared.account.Account.{Account}
 use Rattle.story.specs.declared.account.Manner.{Manner}
 use Rattle.story.specs.declared.account.Place.{Place}
@@ -33,48 +35,51 @@ place_after m l place (Line i) = at_line place (slice_get l.lines.items i)
 place_after m l place (Frame k) = if m.frames then place else and_frame place k
 place_after m l place other = place
 
--- ---- the lines of a text, by what they begin with
+-- ---- the lines of a text, by what they say
 -- so many frames were sent, if any
-abbrev pub sent_lines : Form → Place → List (List ℕ)
-sent_lines form place = if place.sent == 0 then [] else count_begin form place.line place.sent ∷ []
+abbrev pub sent_lines : Form → Place → List Saying
+sent_lines form place = if place.sent == 0 then [] else count_said form place.line place.first place.sent ∷ []
 
-abbrev pub line_lines : Form → Option LineBegin → List (List ℕ)
-line_lines form None = []
-line_lines form (Some l) = line_begin form l.number ∷ []
+-- a line of the schedule has its text in the file
+abbrev pub line_lines : Form → List (List ℕ) → Option LineBegin → List Saying
+line_lines form texts None = []
+line_lines form texts (Some l) = line_said form l.number (text_at texts l.number) ∷ []
 
-abbrev pub item_lines : Form → ℕ → Bool → List (List ℕ)
-item_lines form line tells = if tells then item_begin form line ∷ [] else []
+abbrev pub item_lines : Form → ℕ → Option Happening → List Saying
+item_lines form line None = []
+item_lines form line (Some h) = item_said form line h ∷ []
 
--- an entry has a line, if something came of a step by it; a frame only where frames are told one by one. Where a line of the schedule begins, the
+-- an entry has a line, if something happened by it; a frame only where frames are told one by one. Where a line of the schedule begins, the
 -- frames of the one before are told first
-abbrev pub entry_lines : Manner → Ledger → Place → Entry → List (List ℕ)
-entry_lines m l place (Line i) = sent_lines m.form place ++ line_lines m.form (slice_get l.lines.items i)
-entry_lines m l place (Frame k) = if m.frames then item_lines m.form place.line (tells_item (world_of l.world) (Frame k)) else []
-entry_lines m l place other = item_lines m.form place.line (tells_item (world_of l.world) other)
+abbrev pub entry_lines : Manner → Ledger → List (List ℕ) → Place → Entry → List Saying
+entry_lines m l texts place (Line i) = sent_lines m.form place ++ line_lines m.form texts (slice_get l.lines.items i)
+entry_lines m l texts place (Frame k) = if m.frames then item_lines m.form place.line (happening (world_of l.world) (Frame k)) else []
+entry_lines m l texts place other = item_lines m.form place.line (happening (world_of l.world) other)
 
 -- the entries have their lines, one behind another; these are the frames that are still to be told
-pub data AreWritten (m : Manner) (l : Ledger) : List Entry → Place → List ℕ → Type 0 where
-  none : AreWritten m l [] start []
-  next : (es : List Entry) (e : Entry) (place : Place) (old new : List ℕ) → AreWritten m l es place old
-      → AddsLines old (entry_lines m l place e) new → AreWritten m l (es ++ e ∷ []) (place_after m l place e) new
+pub data AreWritten (m : Manner) (l : Ledger) (texts : List (List ℕ)) : List Entry → Place → List ℕ → Type 0 where
+  none : AreWritten m l texts [] start []
+  next : (es : List Entry) (e : Entry) (place : Place) (old new : List ℕ) → AreWritten m l texts es place old
+      → AddsLines old (entry_lines m l texts place e) new → AreWritten m l texts (es ++ e ∷ []) (place_after m l place e) new
 
 -- at the end the frames of the last line are told, and the fault that ended the run, if one did
-abbrev pub fault_lines : Form → Option ReplayFault → ℕ → List (List ℕ)
-fault_lines form None frames = []
-fault_lines form (Some fault) frames = fault_begins form fault frames
+abbrev pub fault_lines : Form → Option ReplayFault → ℕ → List Bool → List Saying
+fault_lines form None frames waiting = []
+fault_lines form (Some fault) frames waiting = fault_said form fault frames (ranges_of waiting)
 
-abbrev pub end_lines : Manner → Ledger → Place → List (List ℕ)
-end_lines m l place = sent_lines m.form place ++ fault_lines m.form l.fault (length (world_of l.world).frames)
+abbrev pub end_lines : Manner → Ledger → Place → List Saying
+end_lines m l place = sent_lines m.form place ++ fault_lines m.form l.fault (length (world_of l.world).frames) (world_of l.world).waiting
 
 -- the text has the lines of each entry of the list of what is told, in order, behind these how the run ended, and nothing else
-pub record IsWritten (l : Ledger) (m : Manner) (text : List ℕ) : Type 0 where
+pub record IsWritten (bytes : List ℕ) (l : Ledger) (m : Manner) (text : List ℕ) : Type 0 where
   pub entries : List Entry
   pub tells : TellsRun l entries
   pub place : Place
   pub told : List ℕ
-  pub written : AreWritten m l entries place told
+  pub written : AreWritten m l (texts_in bytes) entries place told
   pub ending : AddsLines told (end_lines m l place) text
 
-pub record IsAccountOf (l : Ledger) (m : Manner) (a : Account) : Type 0 where
+-- the account of the run of the schedule that the bytes spell
+pub record IsAccountOf (bytes : List ℕ) (l : Ledger) (m : Manner) (a : Account) : Type 0 where
   pub fault : a.fault ≡ l.fault
-  pub text : IsWritten l m a.text.items
+  pub text : IsWritten bytes l m a.text.items

@@ -38,7 +38,7 @@ pub record IsKept (l : Ledger) : Type 0 where
   pub within : AreWithin (counted l) (counts_of (world_of l.world))
   pub passages : length l.passages.items ≡ (counted l).frames
   pub came : ArePassages l.steps.items l.passages.items
-  pub sent : AreSent l.steps.items l.passages.items
+  pub sent : AreSent (world_of l.world).frames l.steps.items l.passages.items
   pub searched : AreSearched (world_of l.world).waiting (length (world_of l.world).frames) l.lowest
 
 -- and all is counted that is there; there is a flag for each frame, too
@@ -48,7 +48,7 @@ pub record IsComplete (l : Ledger) : Type 0 where
   pub ends : counted l ≡ counts_of (world_of l.world)
   pub passages : length l.passages.items ≡ length (world_of l.world).frames
   pub came : ArePassages l.steps.items l.passages.items
-  pub sent : AreSent l.steps.items l.passages.items
+  pub sent : AreSent (world_of l.world).frames l.steps.items l.passages.items
   pub waiting : length (world_of l.world).waiting ≡ length (world_of l.world).frames
 
 -- a run stands where it stood: its lines, its fault and its world are the same

@@ -1,10 +1,16 @@
 pub mod Accounts
+pub mod Answering
 pub mod Counted
 pub mod Following
+pub mod Happenings
 pub mod Ledgers
 pub mod Lines
+pub mod Marking
+pub mod Members
 pub mod Noting
 pub mod Passing
+pub mod Ranges
 pub mod Saying
 pub mod Sketches
 pub mod Telling
+pub mod Wordings

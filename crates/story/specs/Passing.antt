@@ -1,6 +1,8 @@
 -- When each frame was sent and came, by the steps of a run.
-use Rattle.std.specs.Prelude.{◌≡◌, ◌==◌, ◌⊎◌, ℕ, suc, ◌<◌, ◌≤◌, List, length, slice_get, Option, Some, None, if◌then◌else◌}
+use Rattle.std.specs.Prelude.{◌≡◌, ◌==◌, ◌⊎◌, ℕ, suc, ◌-◌, ◌<◌, ◌≤◌, List, length, slice_get, drop, Option, Some, None, if◌then◌else◌}
+use Rattle.wire.specs.declared.frames.envelope.Envelope.{Envelope}
 use Rattle.diagram.specs.declared.arrows.Passage.{Passage}
+use Rattle.story.specs.Answering.{IsAnswered}
 use Rattle.story.specs.declared.deeds.Deed.{Deed}
 use Rattle.story.specs.declared.deeds.Deed.TheVariants.{Delivered}
 use Rattle.story.specs.declared.ledger.Step.{Step}
@@ -41,23 +43,25 @@ pub record OneMade (steps : List Step) (first end : ℕ) : Type 0 where
   pub before : (counts_before steps step).frames ≤ first
   pub behind : end ≤ (counts_before steps (suc step)).frames
 
--- at this step a frame before frame k came for the first time, which one step made together with it, as a round by hand does
-pub record Hears (steps : List Step) (step k : ℕ) : Type 0 where
+-- at this step a frame before frame k came for the first time, which frame k answers, and which one step made together with it, as a
+-- round by hand does
+pub record Hears (frames : List Envelope) (steps : List Step) (step k : ℕ) : Type 0 where
   pub heard : ℕ
   pub before : heard < k
+  pub answered : IsAnswered frames heard k
   pub came : FirstDeliversAt steps step heard
   pub round : OneMade steps heard (suc k)
 
--- by the step at which frame k is sent the list of frames has it. That is the step which made it, or one at which an earlier frame of
--- the same round came, and none behind the one at which frame k came
-pub record IsSent (steps : List Step) (k : ℕ) (p : Passage) : Type 0 where
+-- by the step at which frame k is sent the list of frames has it. That is the step which made it, or one at which a frame of the same
+-- round came that it answers, and none behind the one at which frame k came
+pub record IsSent (frames : List Envelope) (steps : List Step) (k : ℕ) (p : Passage) : Type 0 where
   pub has : k < (counts_before steps (suc p.sent)).frames
-  pub when : ((counts_before steps p.sent).frames ≤ k) ⊎ Hears steps p.sent k
+  pub when : ((counts_before steps p.sent).frames ≤ k) ⊎ Hears frames steps p.sent k
   pub in_time : (i : ℕ) → p.came ≡ Some i → p.sent ≤ i
 
 -- the passages have of each frame at which step it was sent
-pub record AreSent (steps : List Step) (passages : List Passage) : Type 0 where
-  pub each : (k : ℕ) (p : Passage) → slice_get passages k ≡ Some p → IsSent steps k p
+pub record AreSent (frames : List Envelope) (steps : List Step) (passages : List Passage) : Type 0 where
+  pub each : (k : ℕ) (p : Passage) → slice_get passages k ≡ Some p → IsSent frames steps k p
 
 -- ---- one step more
 -- of so many frames a deed delivers none that isn't there
@@ -104,17 +108,19 @@ MadeFrom steps first end = ((counts_before steps (length steps)).frames ≤ firs
 pub record AreOfRound (steps : List Step) (first : ℕ) : Type 0 where
   pub each : (j k : ℕ) → first ≤ j → j < k → k < (counts_before steps (length steps)).frames → OneMade steps j (suc k)
 
--- a frame from this number on, and before frame k, came at this step
-pub record HearsIn (first : ℕ) (passages : List Passage) (k step : ℕ) : Type 0 where
+-- a frame from this number on, and before frame k, came at this step. Frame k answers it: these are the frames from that number on
+pub record HearsIn (late : List Envelope) (first : ℕ) (passages : List Passage) (k step : ℕ) : Type 0 where
   pub heard : ℕ
   pub from : first ≤ heard
   pub before : heard < k
+  pub answered : IsAnswered late (heard - first) (k - first)
   pub came : came_in passages heard ≡ Some step
 
 -- one that was sent at one step or at another, when it hears something, if it hasn't come by then
 pub record IsLater (p : Passage) (heard sent : ℕ) : Type 0 where
   pub one : (sent ≡ p.sent) ⊎ ((sent ≡ heard) × (p.sent ≤ heard) × ((i : ℕ) → p.came ≡ Some i → heard ≤ i))
 
--- what the passages had of the steps at which the frames were sent they still have
-pub record StillSent (first : ℕ) (old new : List Passage) : Type 0 where
-  pub kept : (steps : List Step) → NeverFall steps → AreOfRound steps first → ArePassages steps old → AreSent steps old → AreSent steps new
+-- what the passages had of the steps at which the frames were sent they still have: these are the frames from this number on
+pub record StillSent (late : List Envelope) (first : ℕ) (old new : List Passage) : Type 0 where
+  pub kept : (frames : List Envelope) (steps : List Step) → late ≡ drop first frames → NeverFall steps → AreOfRound steps first
+      → ArePassages steps old → AreSent frames steps old → AreSent frames steps new

@@ -1,12 +1,12 @@
 //! A run as text.
 
-ghost use Rattle.std.specs.Prelude.{◌≡◌, ◌+◌, ◌++◌, ◌<◌, ◌^◌, IfErr, IfOk, OnOk, slice_get};
+ghost use Rattle.std.specs.Prelude.{◌≡◌, ◌+◌, ◌++◌, ◌<◌, ◌^◌, IfErr, IfOk, OnOk, map, slice_get};
 ghost use Rattle.world.specs.Seen.{world_of};
 ghost use Rattle.story.specs.Accounts.{IsAccountOf, IsWritten, and_frame, at_line, end_lines, entry_lines, item_lines, line_lines, place_after, sent_lines};
 ghost use Rattle.story.specs.Following.{IsRunOf, IsUntold};
 ghost use Rattle.story.specs.Ledgers.{IsComplete};
+ghost use Rattle.story.specs.Happenings.{happening};
 ghost use Rattle.story.specs.Lines.{AddsLines};
-ghost use Rattle.story.specs.Saying.{tells_item};
 ghost use Rattle.story.specs.declared.ledger.Ledger.{Ledger as ALedger};
 
 use super::course::follow;
@@ -36,7 +36,7 @@ pub struct Account {
 pub fn tell(alloc: Global, bytes: &[u8], form: Form, frames: bool) -> Result<Account, ReplayFault>
     ensures told { IfOk result (λ account. (ledger : ALedger)
         × IsRunOf (⟦<Scripted<MemStable> as Stable>⟧) bytes.now ledger.lines.items ledger.steps.items ledger.fault (world_of ledger.world)
-        × IsAccountOf ledger (record { form = form; frames = frames }) account) }
+        × IsAccountOf bytes.now ledger (record { form = form; frames = frames }) account) }
     ensures untold { IfErr result (IsUntold bytes.now) }
 {
     let ledger = follow(alloc, bytes)?;
@@ -79,7 +79,7 @@ impl Place {
 /// Writes all that is told of a run: each line of the schedule, what came of it, and how the run ended.
 fn tell_run(alloc: Global, bytes: &[u8], ledger: &Ledger, manner: Manner) -> io::Result<Vec<u8>>
     requires { IsComplete ledger.now }
-    ensures { IfOk result (λ text. IsWritten ledger.now manner text.items) }
+    ensures { IfOk result (λ text. IsWritten bytes.now ledger.now manner text.items) }
 {
     let entries = list_run(alloc, ledger)?;
     let texts = split_lines(alloc, bytes)?;
@@ -109,14 +109,14 @@ fn tell_run(alloc: Global, bytes: &[u8], ledger: &Ledger, manner: Manner) -> io:
 fn tell_next(
     alloc: Global,
     ledger: &Ledger,
-    texts: &[&str],
+    texts: &[&[u8]],
     manner: Manner,
     place: Place,
     entry: Entry,
     text: &mut Vec<u8>,
 ) -> io::Result<Place>
     requires { place.sent + 1 < 2 ^ 64 }
-    ensures lines { OnOk result (AddsLines text.old.items (entry_lines manner ledger.now place entry) text.new.items) }
+    ensures lines { OnOk result (AddsLines text.old.items (entry_lines manner ledger.now (map (λ t. t.now) texts.now) place entry) text.new.items) }
     ensures place { IfOk result (λ after. after ≡ place_after manner ledger.now place entry) }
 {
     match entry {
@@ -141,14 +141,14 @@ fn tell_next(
 fn begin_line(
     alloc: Global,
     ledger: &Ledger,
-    texts: &[&str],
+    texts: &[&[u8]],
     form: Form,
     place: Place,
     index: usize,
     text: &mut Vec<u8>,
 ) -> io::Result<Place>
     ensures lines { OnOk result (AddsLines text.old.items
-        (sent_lines form place ++ line_lines form (slice_get ledger.now.lines.items index)) text.new.items) }
+        (sent_lines form place ++ line_lines form (map (λ t. t.now) texts.now) (slice_get ledger.now.lines.items index)) text.new.items) }
     ensures place { IfOk result (λ after. after ≡ at_line place (slice_get ledger.now.lines.items index)) }
 {
     tell_sent(alloc, form, place, text)?;
@@ -156,12 +156,7 @@ fn begin_line(
         return Ok(place);
     };
     let line = begin.number;
-    // Whatever parses has the line.
-    let said = match text_of(texts, line) {
-        Some(said) => said,
-        None => "",
-    };
-    tell_line(alloc, form, text, line, said)?;
+    tell_line(alloc, form, text, line, text_of(texts, line))?;
     Ok(Place {
         line,
         first: 0,
@@ -192,7 +187,7 @@ fn tell_entry(
     text: &mut Vec<u8>,
 ) -> io::Result<Place>
     ensures lines { OnOk result (AddsLines text.old.items
-        (item_lines form place.line (tells_item (world_of ledger.now.world) entry)) text.new.items) }
+        (item_lines form place.line (happening (world_of ledger.now.world) entry)) text.new.items) }
     ensures place { IfOk result (λ after. after ≡ place) }
 {
     match item_of(alloc, &ledger.world, entry) {

@@ -1,9 +1,9 @@
 //! What is told of a run, entry by entry.
 
-ghost use Rattle.std.specs.Prelude.{◌≡◌, IfOk, OnOk, is_some, slice_get};
-ghost use Rattle.picture.specs.Growing.{Grows};
+ghost use Rattle.std.specs.Prelude.{◌≡◌, ◌++◌, IfOk, OnOk, option_and_then, option_map, slice_get};
+ghost use Rattle.replay.specs.Transcripts.{command_text, request_text};
+ghost use Rattle.story.specs.Happenings.{happening, own_happening, sending_of, told_by};
 ghost use Rattle.world.specs.Seen.{world_of};
-ghost use Rattle.story.specs.Saying.{tells_item, tells_more};
 
 use super::entries::Entry;
 use diagram::{Facts, facts_of};
@@ -42,7 +42,7 @@ pub(crate) fn item_of<'a>(
     world: &'a World<MemStable>,
     entry: Entry,
 ) -> Result<Option<Item<'a>>, AllocError>
-    ensures { IfOk result (λ item. is_some item ≡ tells_item (world_of world.now) entry) }
+    ensures { IfOk result (λ item. option_map told_by item ≡ happening (world_of world.now) entry) }
 {
     match entry {
         Entry::Line(_) | Entry::Step(_) => Ok(None),
@@ -69,7 +69,7 @@ fn sent_item<'a>(
     frames: &[Frame],
     number: usize,
 ) -> Result<Option<Item<'a>>, AllocError>
-    ensures { IfOk result (λ item. is_some item ≡ is_some (slice_get frames.now number)) }
+    ensures { IfOk result (λ item. option_map told_by item ≡ option_map (sending_of number) (slice_get frames.now number)) }
 {
     let Some(frame) = frames.get(number) else {
         return Ok(None);
@@ -85,7 +85,7 @@ fn sent_item<'a>(
 
 /// What is told of an outcome.
 fn outcome_item<'a>(outcomes: &[StepOutcome], index: usize) -> Option<Item<'a>>
-    ensures { is_some result ≡ tells_more (slice_get outcomes.now index) }
+    ensures { option_map told_by result ≡ option_and_then own_happening (slice_get outcomes.now index) }
 {
     match *outcomes.get(index)? {
         StepOutcome::Done { .. } | StepOutcome::Answered => None,
@@ -98,9 +98,8 @@ fn outcome_item<'a>(outcomes: &[StepOutcome], index: usize) -> Option<Item<'a>>
 }
 
 /// Adds a command by its request, as 7:1, or as noop.
-#[tactic(auto, using(picture::proofs::Growth::grows_by, picture::proofs::Growth::grows_on, picture::proofs::Growth::grows_not))]
 pub(crate) fn push_command(text: &mut Vec<u8>, command: &Command) -> io::Result<()>
-    ensures { OnOk result (Grows text.old.items text.new.items) }
+    ensures { OnOk result (text.new.items ≡ text.old.items ++ command_text command.now) }
 {
     match command {
         Command::NoOp => {
@@ -114,9 +113,8 @@ pub(crate) fn push_command(text: &mut Vec<u8>, command: &Command) -> io::Result<
 }
 
 /// Adds a request by its client and number.
-#[tactic(auto, using(picture::proofs::Growth::grows_by, picture::proofs::Growth::grows_on, picture::proofs::Growth::grows_not))]
 pub(crate) fn push_request(text: &mut Vec<u8>, client: u8, number: u64) -> io::Result<()>
-    ensures { OnOk result (Grows text.old.items text.new.items) }
+    ensures { OnOk result (text.new.items ≡ text.old.items ++ request_text client number) }
 {
     write!(text, "{client}:{number}")
 }

@@ -1,11 +1,15 @@
 //! What came of a line, as JSON: an object a line, its members in a fixed order.
 
-#![tactic(auto, using(picture::proofs::Growth::grows_by, picture::proofs::Growth::grows_on, picture::proofs::Growth::grows_not, crate::proofs::LineLemmas::begins_with, crate::proofs::LineLemmas::begins_so))]
-
-ghost use Rattle.std.specs.Prelude.{◌≡◌, [], IfOk, OnOk};
-ghost use Rattle.picture.specs.Growing.{Grows};
-ghost use Rattle.story.specs.Lines.{GrowsBy};
-ghost use Rattle.story.specs.Saying.{count_begin, line_begin, object_begin};
+ghost use Rattle.std.specs.Prelude.{◌≡◌, ◌++◌, codes, decimal, IfOk, OnOk};
+ghost use Rattle.diagram.specs.Facts.{kind_text};
+ghost use Rattle.replay.specs.Transcripts.{command_text, request_text};
+ghost use Rattle.sessions.specs.SessionReplies.{outcome_code};
+ghost use Rattle.story.specs.Happenings.{answer_given, frame_lost, frame_sent, node_refused, node_stopped, reply_given, round_ended, slot_learnt, text_restored, told_by};
+ghost use Rattle.story.specs.Lines.{Says};
+ghost use Rattle.story.specs.Members.{ballot_member, code_members, fault_members, json_text, members_of, reply_members, slot_member};
+ghost use Rattle.story.specs.Ranges.{range_pairs};
+ghost use Rattle.story.specs.Saying.{count_said, ending_members, item_said, line_said, object_begin};
+ghost use Rattle.story.specs.Wordings.{end_words, meaning_of};
 ghost use Rattle.story.specs.declared.writer.Form.TheVariants.{Json};
 
 use super::items::{Item, push_command, push_request};
@@ -18,25 +22,24 @@ use serde_json::Value;
 use sessions::Command;
 use std::alloc::Global;
 use std::io::{self, Write};
-use std::str;
 use synod::Ballot;
 use wire::{Kind, NodeId, Position};
 use world_model::{Answered, LearntEntry, Replied, RoundEnd};
 
 /// A line of the schedule.
-pub(crate) fn line_object(alloc: Global, number: u64, line: &str) -> io::Result<Vec<u8>>
-    ensures { IfOk result (λ line. GrowsBy (line_begin Json number) [] line.items) }
+pub(crate) fn line_object(alloc: Global, number: u64, line: &[u8]) -> io::Result<Vec<u8>>
+    ensures { IfOk result (λ text. Says (line_said Json number line.now) text.items) }
 {
-    let mut text = Vec::new(alloc);
-    write!(&mut text, "{{\"line\":{number},\"what\":\"line\",\"text\":")?;
-    push_quoted(alloc, &mut text, line.as_bytes())?;
+    let mut text = begin_object(alloc, number)?;
+    text.extend_from_slice(b"\"line\",\"text\":")?;
+    push_quoted(alloc, &mut text, line)?;
     text.extend_from_slice(b"}")?;
     Ok(text)
 }
 
 /// What came of a line.
 pub(crate) fn item_object(alloc: Global, line: u64, item: &Item) -> io::Result<Vec<u8>>
-    ensures { IfOk result (λ text. GrowsBy (object_begin line) [] text.items) }
+    ensures { IfOk result (λ text. Says (item_said Json line (told_by item.now)) text.items) }
 {
     let mut text = begin_object(alloc, line)?;
     push_item(alloc, &mut text, item)?;
@@ -60,17 +63,14 @@ pub(crate) fn count_object(
     first: usize,
     count: usize,
 ) -> io::Result<Vec<u8>>
-    ensures { IfOk result (λ text. GrowsBy (count_begin Json line count) [] text.items) }
+    ensures { IfOk result (λ text. Says (count_said Json line first count) text.items) }
 {
     let mut text = begin_object(alloc, line)?;
-    push_count(&mut text, first, count)?;
+    write!(
+        &mut text,
+        "\"frames\",\"first\":{first},\"count\":{count}}}"
+    )?;
     Ok(text)
-}
-
-fn push_count(text: &mut Vec<u8>, first: usize, count: usize) -> io::Result<()>
-    ensures { OnOk result (Grows text.old.items text.new.items) }
-{
-    write!(text, "\"frames\",\"first\":{first},\"count\":{count}}}")
 }
 
 /// The fault with which the run ends, how many frames there are, and those that wait.
@@ -80,7 +80,7 @@ pub(crate) fn fault_object(
     frames: usize,
     waiting: &[Range],
 ) -> io::Result<Vec<u8>>
-    ensures { IfOk result (λ text. GrowsBy (object_begin fault.line) [] text.items) }
+    ensures { IfOk result (λ text. text.items ≡ object_begin fault.line ++ (ending_members fault frames ++ (range_pairs waiting.now ++ codes "]}"))) }
 {
     let mut text = begin_object(alloc, fault.line)?;
     push_fault(&mut text, fault, frames)?;
@@ -90,7 +90,7 @@ pub(crate) fn fault_object(
 }
 
 fn push_fault(text: &mut Vec<u8>, fault: ReplayFault, frames: usize) -> io::Result<()>
-    ensures { OnOk result (Grows text.old.items text.new.items) }
+    ensures { OnOk result (text.new.items ≡ text.old.items ++ ending_members fault frames) }
 {
     let (code, cause) = (fault.cause.code(), fault.cause);
     write!(
@@ -101,7 +101,7 @@ fn push_fault(text: &mut Vec<u8>, fault: ReplayFault, frames: usize) -> io::Resu
 
 /// Adds the ranges of frames as JSON: an array of the first and the last number for each.
 fn push_pairs(text: &mut Vec<u8>, ranges: &[Range]) -> io::Result<()>
-    ensures { OnOk result (Grows text.old.items text.new.items) }
+    ensures { OnOk result (text.new.items ≡ text.old.items ++ range_pairs ranges.now) }
 {
     let mut lead: &[u8] = b"";
     for range in ranges {
@@ -115,7 +115,7 @@ fn push_pairs(text: &mut Vec<u8>, ranges: &[Range]) -> io::Result<()>
 
 /// Adds the members of an item: its kind, and what is told of it.
 fn push_item(alloc: Global, text: &mut Vec<u8>, item: &Item) -> io::Result<()>
-    ensures { OnOk result (Grows text.old.items text.new.items) }
+    ensures { OnOk result (text.new.items ≡ text.old.items ++ members_of (told_by item.now)) }
 {
     match item {
         Item::Sent {
@@ -142,7 +142,7 @@ fn push_sent(
     to: NodeId,
     facts: &Facts,
 ) -> io::Result<()>
-    ensures { OnOk result (Grows text.old.items text.new.items) }
+    ensures { OnOk result (text.new.items ≡ text.old.items ++ members_of (frame_sent number from to facts.now)) }
 {
     push_way(text, number, from, to, facts.kind)?;
     push_facts(text, facts)
@@ -156,7 +156,8 @@ fn push_way(
     to: NodeId,
     kind: Kind,
 ) -> io::Result<()>
-    ensures { OnOk result (Grows text.old.items text.new.items) }
+    ensures { OnOk result (text.new.items ≡ text.old.items ++ (codes "\"frame\",\"frame\":" ++ (decimal number ++ (codes ",\"kind\":\"" ++ (kind_text kind
+        ++ (codes "\",\"from\":" ++ (decimal from ++ (codes ",\"to\":" ++ decimal to)))))))) }
 {
     let (from, to, kind) = (from.value(), to.value(), kind_name(kind));
     write!(
@@ -167,7 +168,7 @@ fn push_way(
 
 /// What it speaks of.
 fn push_facts(text: &mut Vec<u8>, facts: &Facts) -> io::Result<()>
-    ensures { OnOk result (Grows text.old.items text.new.items) }
+    ensures { OnOk result (text.new.items ≡ text.old.items ++ (slot_member facts.now.slot ++ ballot_member facts.now.ballot)) }
 {
     push_slot(text, facts.slot)?;
     push_ballot(text, facts.ballot)
@@ -175,7 +176,7 @@ fn push_facts(text: &mut Vec<u8>, facts: &Facts) -> io::Result<()>
 
 /// The slot of which a frame speaks.
 fn push_slot(text: &mut Vec<u8>, slot: Option<u32>) -> io::Result<()>
-    ensures { OnOk result (Grows text.old.items text.new.items) }
+    ensures { OnOk result (text.new.items ≡ text.old.items ++ slot_member slot) }
 {
     match slot {
         Some(slot) => write!(text, ",\"slot\":{slot}"),
@@ -185,7 +186,7 @@ fn push_slot(text: &mut Vec<u8>, slot: Option<u32>) -> io::Result<()>
 
 /// The ballot of which it speaks.
 fn push_ballot(text: &mut Vec<u8>, ballot: Option<Ballot>) -> io::Result<()>
-    ensures { OnOk result (Grows text.old.items text.new.items) }
+    ensures { OnOk result (text.new.items ≡ text.old.items ++ ballot_member ballot) }
 {
     match ballot {
         Some(ballot) => {
@@ -197,7 +198,7 @@ fn push_ballot(text: &mut Vec<u8>, ballot: Option<Ballot>) -> io::Result<()>
 }
 
 fn push_learnt(text: &mut Vec<u8>, entry: &LearntEntry) -> io::Result<()>
-    ensures { OnOk result (Grows text.old.items text.new.items) }
+    ensures { OnOk result (text.new.items ≡ text.old.items ++ members_of (slot_learnt entry.now)) }
 {
     let (node, slot) = (entry.node.value(), entry.slot.value());
     write!(
@@ -209,7 +210,7 @@ fn push_learnt(text: &mut Vec<u8>, entry: &LearntEntry) -> io::Result<()>
 
 /// A command, and the end of its text.
 fn push_named(text: &mut Vec<u8>, command: &Command) -> io::Result<()>
-    ensures { OnOk result (Grows text.old.items text.new.items) }
+    ensures { OnOk result (text.new.items ≡ text.old.items ++ (command_text command.now ++ codes "\"")) }
 {
     push_command(text, command)?;
     text.extend_from_slice(b"\"")?;
@@ -217,7 +218,7 @@ fn push_named(text: &mut Vec<u8>, command: &Command) -> io::Result<()>
 }
 
 fn push_replied(text: &mut Vec<u8>, entry: &Replied) -> io::Result<()>
-    ensures { OnOk result (Grows text.old.items text.new.items) }
+    ensures { OnOk result (text.new.items ≡ text.old.items ++ members_of (reply_given entry.now)) }
 {
     let node = entry.node.value();
     write!(text, "\"reply\",\"node\":{node}")?;
@@ -226,7 +227,7 @@ fn push_replied(text: &mut Vec<u8>, entry: &Replied) -> io::Result<()>
 
 /// To which request a reply is, and what it says.
 fn push_reply(text: &mut Vec<u8>, entry: &Replied) -> io::Result<()>
-    ensures { OnOk result (Grows text.old.items text.new.items) }
+    ensures { OnOk result (text.new.items ≡ text.old.items ++ reply_members entry.now) }
 {
     text.extend_from_slice(b",\"request\":\"")?;
     push_request(text, entry.client, entry.number.value())?;
@@ -235,7 +236,7 @@ fn push_reply(text: &mut Vec<u8>, entry: &Replied) -> io::Result<()>
 }
 
 fn push_answered(alloc: Global, text: &mut Vec<u8>, entry: &Answered) -> io::Result<()>
-    ensures { OnOk result (Grows text.old.items text.new.items) }
+    ensures { OnOk result (text.new.items ≡ text.old.items ++ members_of (answer_given entry.now)) }
 {
     let node = entry.node.value();
     write!(text, "\"answer\",\"node\":{node}")?;
@@ -244,7 +245,7 @@ fn push_answered(alloc: Global, text: &mut Vec<u8>, entry: &Answered) -> io::Res
 
 /// At which position an answer is, and its text.
 fn push_answer(alloc: Global, text: &mut Vec<u8>, entry: &Answered) -> io::Result<()>
-    ensures { OnOk result (Grows text.old.items text.new.items) }
+    ensures { OnOk result (text.new.items ≡ text.old.items ++ (codes ",\"position\":" ++ (decimal entry.now.position ++ (codes ",\"text\":" ++ json_text entry.now.text)))) }
 {
     let position = entry.position;
     write!(text, ",\"position\":{position},\"text\":")?;
@@ -252,20 +253,20 @@ fn push_answer(alloc: Global, text: &mut Vec<u8>, entry: &Answered) -> io::Resul
 }
 
 fn push_restored(text: &mut Vec<u8>, node: NodeId, position: Position) -> io::Result<()>
-    ensures { OnOk result (Grows text.old.items text.new.items) }
+    ensures { OnOk result (text.new.items ≡ text.old.items ++ members_of (text_restored node position)) }
 {
     let (node, position) = (node.value(), position.value());
     write!(text, "\"restore\",\"node\":{node},\"position\":{position}")
 }
 
 fn push_lost(text: &mut Vec<u8>) -> io::Result<()>
-    ensures { OnOk result (Grows text.old.items text.new.items) }
+    ensures { OnOk result (text.new.items ≡ text.old.items ++ members_of frame_lost) }
 {
     write!(text, "\"lost\"")
 }
 
 fn push_round(text: &mut Vec<u8>, node: NodeId, end: RoundEnd) -> io::Result<()>
-    ensures { OnOk result (Grows text.old.items text.new.items) }
+    ensures { OnOk result (text.new.items ≡ text.old.items ++ members_of (round_ended node end)) }
 {
     let node = node.value();
     write!(text, "\"round\",\"node\":{node},\"meaning\":\"")?;
@@ -274,7 +275,7 @@ fn push_round(text: &mut Vec<u8>, node: NodeId, end: RoundEnd) -> io::Result<()>
 
 /// How a round ended, and the end of its text.
 fn push_round_end(text: &mut Vec<u8>, end: RoundEnd) -> io::Result<()>
-    ensures { OnOk result (Grows text.old.items text.new.items) }
+    ensures { OnOk result (text.new.items ≡ text.old.items ++ (end_words end ++ codes "\"")) }
 {
     push_end(text, end)?;
     text.extend_from_slice(b"\"")?;
@@ -282,7 +283,7 @@ fn push_round_end(text: &mut Vec<u8>, end: RoundEnd) -> io::Result<()>
 }
 
 fn push_refused(text: &mut Vec<u8>, node: NodeId, fault: NodeFault) -> io::Result<()>
-    ensures { OnOk result (Grows text.old.items text.new.items) }
+    ensures { OnOk result (text.new.items ≡ text.old.items ++ members_of (node_refused node fault)) }
 {
     let node = node.value();
     write!(text, "\"refuse\",\"node\":{node}")?;
@@ -290,7 +291,7 @@ fn push_refused(text: &mut Vec<u8>, node: NodeId, fault: NodeFault) -> io::Resul
 }
 
 fn push_stopped(text: &mut Vec<u8>, node: NodeId, fault: NodeFault) -> io::Result<()>
-    ensures { OnOk result (Grows text.old.items text.new.items) }
+    ensures { OnOk result (text.new.items ≡ text.old.items ++ members_of (node_stopped node fault)) }
 {
     let node = node.value();
     write!(text, "\"stop\",\"node\":{node}")?;
@@ -299,7 +300,7 @@ fn push_stopped(text: &mut Vec<u8>, node: NodeId, fault: NodeFault) -> io::Resul
 
 /// The number and the words of a node's fault.
 fn push_node_fault(text: &mut Vec<u8>, fault: NodeFault) -> io::Result<()>
-    ensures { OnOk result (Grows text.old.items text.new.items) }
+    ensures { OnOk result (text.new.items ≡ text.old.items ++ fault_members fault) }
 {
     let code = fault.code();
     write!(text, ",\"code\":{code},\"meaning\":\"{fault}\"")
@@ -307,14 +308,10 @@ fn push_node_fault(text: &mut Vec<u8>, fault: NodeFault) -> io::Result<()>
 
 /// Adds a text as JSON has it.
 pub(crate) fn push_quoted(alloc: Global, text: &mut Vec<u8>, bytes: &[u8]) -> io::Result<()>
-    ensures { OnOk result (Grows text.old.items text.new.items) }
+    ensures { OnOk result (text.new.items ≡ text.old.items ++ json_text bytes.now) }
 {
-    match str::from_utf8(bytes) {
-        Ok(plain) => {
-            let quoted = Value::String(String::from_str(alloc, plain)?).to_string(alloc)?;
-            text.extend_from_slice(quoted.as_bytes())?;
-            Ok(())
-        }
-        Err(_) => Ok(()),
-    }
+    let plain = String::from_utf8_lossy(alloc, bytes)?;
+    let quoted = Value::String(plain).to_string(alloc)?;
+    text.extend_from_slice(quoted.as_bytes())?;
+    Ok(())
 }

@@ -1,6 +1,7 @@
 //! When each frame was sent, and when it came.
 
-ghost use Rattle.std.specs.Prelude.{◌≡◌, ◌≤◌, ◌<◌, length, not, slice_get, vec_len, IfSome, OnOk, Some};
+ghost use Rattle.std.specs.Prelude.{◌≡◌, ◌≤◌, ◌<◌, drop, length, not, slice_get, vec_len, IfOk, IfSome, IsTrue, OnOk, Some};
+ghost use Rattle.story.specs.Answering.{Answers, IsAnswered, MessageAnswers};
 ghost use Rattle.story.specs.Passing.{DeliversOneOf, HearsIn, IsLater, NotesComing, NotesSending, SameComings, StillSent, came_in};
 
 use super::deeds::Deed;
@@ -25,7 +26,7 @@ pub(crate) fn send_late(
 )
     ensures count { length passages.new.items ≡ length passages.old.items }
     ensures came { SameComings passages.old.items passages.new.items }
-    ensures sent { StillSent first passages.old.items passages.new.items }
+    ensures sent { StillSent frames.now first passages.old.items passages.new.items }
 {
     send_each_late(frames, passages.as_mut_slice(), first, quorum);
 }
@@ -33,11 +34,11 @@ pub(crate) fn send_late(
 /// Each of the frames was sent when its sender had heard what it answers.
 fn send_each_late(frames: &[Envelope], passages: &mut [Passage], first: usize, quorum: usize)
     ensures came { SameComings passages.old passages.new }
-    ensures sent { StillSent first passages.old passages.new }
+    ensures sent { StillSent frames.now first passages.old passages.new }
 {
     for number in first..first.saturating_add(frames.len()) {
         match heard_before(frames, passages, first, number, quorum) {
-            Some(heard) => delay(passages, first, number, heard),
+            Some(heard) => delay(frames, passages, first, number, heard),
             None => {}
         }
     }
@@ -48,21 +49,22 @@ pub(crate) fn open_frames(
     alloc: Global,
     frames: &[Frame],
     first: usize,
-) -> Result<Vec<Envelope>, AllocError> {
+) -> Result<Vec<Envelope>, AllocError>
+    requires { first ≤ length frames.now }
+    ensures { IfOk result (λ opened. opened.items ≡ drop first frames.now) }
+{
     let mut opened = Vec::new(alloc);
     for index in first..frames.len() {
-        if let Some(frame) = frames.get(index) {
-            opened.push(frame.open(alloc)?)?;
-        }
+        opened.push(frames[index].open(alloc)?)?;
     }
     Ok(opened)
 }
 
 /// A frame was sent no sooner than at the step at which its sender heard what it answers.
-fn delay(passages: &mut [Passage], first: usize, number: usize, heard: usize)
-    requires { HearsIn first passages.old number heard }
+fn delay(frames: &[Envelope], passages: &mut [Passage], first: usize, number: usize, heard: usize)
+    requires { HearsIn frames.now first passages.old number heard }
     ensures came { SameComings passages.old passages.new }
-    ensures sent { StillSent first passages.old passages.new }
+    ensures sent { StillSent frames.now first passages.old passages.new }
 {
     if number < passages.len() {
         passages[number].sent = later(&passages[number], heard);
@@ -94,16 +96,17 @@ fn heard_before(
     number: usize,
     quorum: usize,
 ) -> Option<usize>
-    ensures { IfSome result (HearsIn first passages.now number) }
+    ensures { IfSome result (HearsIn frames.now first passages.now number) }
 {
-    let Some(frame) = frames.get(number.saturating_sub(first)) else {
-        return None;
-    };
     let mut heard = None;
     let mut count: usize = 0;
     for before in first..number {
         let came = came_at(passages, before);
-        let answered = is_answered_by(frames, before.saturating_sub(first), frame);
+        let answered = is_answered(
+            frames,
+            before.saturating_sub(first),
+            number.saturating_sub(first),
+        );
         if came.is_some() && count < quorum && answered {
             heard = came;
             count = count.saturating_add(1);
@@ -112,15 +115,31 @@ fn heard_before(
     heard
 }
 
-/// Whether the frame at a place is answered by another: a prepare by a promise, promises by proposals, and one by a vote for its slot.
-fn is_answered_by(frames: &[Envelope], place: usize, answer: &Envelope) -> bool {
-    let Some(heard) = frames.get(place) else {
-        return false;
-    };
-    if heard.to != answer.from {
-        return false;
+/// Whether of the frames the one at a place is answered by another.
+fn is_answered(frames: &[Envelope], place: usize, answer: usize) -> bool
+    ensures { IsTrue result → IsAnswered frames.now place answer }
+{
+    match frames.get(place) {
+        Some(heard) => match frames.get(answer) {
+            Some(said) => answers(said, heard),
+            None => false,
+        },
+        None => false,
     }
-    match (&answer.message, &heard.message) {
+}
+
+/// Whether a frame answers another: a promise a prepare, a proposal a promise, a vote the proposal of its slot, a refusal a prepare or a
+/// proposal.
+fn answers(answer: &Envelope, heard: &Envelope) -> bool
+    ensures { IsTrue result → Answers answer.now heard.now }
+{
+    heard.to == answer.from && message_answers(&answer.message, &heard.message)
+}
+
+fn message_answers(answer: &Message, heard: &Message) -> bool
+    ensures { IsTrue result → MessageAnswers answer.now heard.now }
+{
+    match (answer, heard) {
         (Message::Promise(_), Message::Prepare { .. }) => true,
         (Message::Accept(_), Message::Promise(_)) => true,
         (Message::Accepted(vote), Message::Accept(asked)) => vote.slot == asked.slot,

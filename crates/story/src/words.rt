@@ -1,11 +1,13 @@
 //! What came of a line, in words.
 
-#![tactic(auto, using(picture::proofs::Growth::grows_by, picture::proofs::Growth::grows_on, picture::proofs::Growth::grows_not, crate::proofs::LineLemmas::begins_with, crate::proofs::LineLemmas::begins_so))]
-
-ghost use Rattle.std.specs.Prelude.{◌++◌, [], codes, decimal, IfOk, OnOk};
-ghost use Rattle.picture.specs.Growing.{Grows};
-ghost use Rattle.story.specs.Lines.{GrowsBy};
-ghost use Rattle.story.specs.Saying.{count_begin, fault_words};
+ghost use Rattle.std.specs.Prelude.{◌≡◌, ◌++◌, codes, decimal, IfOk, OnOk};
+ghost use Rattle.diagram.specs.Facts.{frame_text};
+ghost use Rattle.replay.specs.Transcripts.{request_text};
+ghost use Rattle.story.specs.Happenings.{answer_given, frame_lost, node_refused, node_stopped, reply_given, round_ended, slot_learnt, text_restored, told_by};
+ghost use Rattle.story.specs.Lines.{Says};
+ghost use Rattle.story.specs.Ranges.{range_words, ranges_words};
+ghost use Rattle.story.specs.Saying.{count_said, ending_words, item_said, line_said, right_aligned, way_out};
+ghost use Rattle.story.specs.Wordings.{end_words, meaning_of, reply_words, words_of};
 ghost use Rattle.story.specs.declared.writer.Form.TheVariants.{Words};
 
 use super::items::{Item, push_command, push_request};
@@ -21,17 +23,26 @@ use wire::{NodeId, Position};
 use world_model::{Answered, LearntEntry, Replied, RoundEnd};
 
 /// A line of the schedule.
-pub(crate) fn line_words(alloc: Global, number: u64, line: &str) -> io::Result<Vec<u8>> {
+pub(crate) fn line_words(alloc: Global, number: u64, line: &[u8]) -> io::Result<Vec<u8>>
+    ensures { IfOk result (λ text. Says (line_said Words number line.now) text.items) }
+{
     let mut text = Vec::new(alloc);
-    write!(&mut text, "{number:>6}")?;
+    push_right_aligned(&mut text, number)?;
     text.extend_from_slice(b"  ")?;
-    text.extend_from_slice(line.as_bytes())?;
+    text.extend_from_slice(line)?;
     Ok(text)
 }
 
+/// Adds a number, which ends where the sixth column does, if it isn't longer.
+fn push_right_aligned(text: &mut Vec<u8>, number: u64) -> io::Result<()>
+    ensures { OnOk result (text.new.items ≡ text.old.items ++ right_aligned number) }
+{
+    write!(text, "{number:>6}")
+}
+
 /// What came of a line, below it.
-pub(crate) fn item_words(alloc: Global, item: &Item) -> io::Result<Vec<u8>>
-    ensures { IfOk result (λ line. GrowsBy (codes "        ") [] line.items) }
+pub(crate) fn item_words(alloc: Global, line: u64, item: &Item) -> io::Result<Vec<u8>>
+    ensures { IfOk result (λ text. Says (item_said Words line (told_by item.now)) text.items) }
 {
     let mut text = Vec::new(alloc);
     text.extend_from_slice(b"        ")?;
@@ -40,25 +51,25 @@ pub(crate) fn item_words(alloc: Global, item: &Item) -> io::Result<Vec<u8>>
 }
 
 /// How many frames were sent at a line, of which the first has this number.
-pub(crate) fn count_words(alloc: Global, first: usize, count: usize) -> io::Result<Vec<u8>>
-    ensures { IfOk result (λ line. GrowsBy (count_begin Words 0 count) [] line.items) }
+pub(crate) fn count_words(
+    alloc: Global,
+    line: u64,
+    first: usize,
+    count: usize,
+) -> io::Result<Vec<u8>>
+    ensures { IfOk result (λ text. Says (count_said Words line first count) text.items) }
 {
     let mut text = Vec::new(alloc);
-    write!(&mut text, "        frames sent: {count}")?;
-    push_from(&mut text, first)?;
+    write!(
+        &mut text,
+        "        frames sent: {count}, from number {first} on"
+    )?;
     Ok(text)
-}
-
-/// Adds from which number on.
-fn push_from(text: &mut Vec<u8>, first: usize) -> io::Result<()>
-    ensures { OnOk result (Grows text.old.items text.new.items) }
-{
-    write!(text, ", from number {first} on")
 }
 
 /// The fault with which the run ends.
 pub(crate) fn fault_words(alloc: Global, fault: ReplayFault) -> io::Result<Vec<u8>>
-    ensures { IfOk result (λ line. GrowsBy (fault_words fault) [] line.items) }
+    ensures { IfOk result (λ text. text.items ≡ ending_words fault) }
 {
     let mut text = Vec::new(alloc);
     let (line, code, cause) = (fault.line, fault.cause.code(), fault.cause);
@@ -68,7 +79,7 @@ pub(crate) fn fault_words(alloc: Global, fault: ReplayFault) -> io::Result<Vec<u
 
 /// How many frames there are.
 pub(crate) fn frames_words(alloc: Global, frames: usize) -> io::Result<Vec<u8>>
-    ensures { IfOk result (λ line. GrowsBy (codes "        frames so far: " ++ (decimal frames ++ codes ", numbered from 0")) [] line.items) }
+    ensures { IfOk result (λ text. text.items ≡ codes "        frames so far: " ++ (decimal frames ++ codes ", numbered from 0")) }
 {
     let mut text = Vec::new(alloc);
     write!(
@@ -80,7 +91,7 @@ pub(crate) fn frames_words(alloc: Global, frames: usize) -> io::Result<Vec<u8>>
 
 /// Which frames wait where a flush doesn't end.
 pub(crate) fn waiting_words(alloc: Global, waiting: &[Range]) -> io::Result<Vec<u8>>
-    ensures { IfOk result (λ line. GrowsBy (codes "        frames that wait: ") [] line.items) }
+    ensures { IfOk result (λ text. text.items ≡ codes "        frames that wait: " ++ ranges_words waiting.now) }
 {
     let mut text = Vec::new(alloc);
     text.extend_from_slice(b"        frames that wait: ")?;
@@ -89,7 +100,9 @@ pub(crate) fn waiting_words(alloc: Global, waiting: &[Range]) -> io::Result<Vec<
 }
 
 /// What ends such a flush.
-pub(crate) fn way_out_words(alloc: Global) -> io::Result<Vec<u8>> {
+pub(crate) fn way_out_words(alloc: Global) -> io::Result<Vec<u8>>
+    ensures { IfOk result (λ text. text.items ≡ way_out) }
+{
     let mut text = Vec::new(alloc);
     text.extend_from_slice(
         b"        a way out: `timeout N` of a node that is up and `flush` again, which catches up with four slots each time",
@@ -99,7 +112,7 @@ pub(crate) fn way_out_words(alloc: Global) -> io::Result<Vec<u8>> {
 
 /// Adds the ranges of frames in words: `3, 7 to 12`.
 fn push_ranges(text: &mut Vec<u8>, ranges: &[Range]) -> io::Result<()>
-    ensures { OnOk result (Grows text.old.items text.new.items) }
+    ensures { OnOk result (text.new.items ≡ text.old.items ++ ranges_words ranges.now) }
 {
     let mut lead: &[u8] = b"";
     for range in ranges {
@@ -112,7 +125,7 @@ fn push_ranges(text: &mut Vec<u8>, ranges: &[Range]) -> io::Result<()>
 
 /// Adds a range of frames in words.
 fn push_range(text: &mut Vec<u8>, range: Range) -> io::Result<()>
-    ensures { OnOk result (Grows text.old.items text.new.items) }
+    ensures { OnOk result (text.new.items ≡ text.old.items ++ range_words range) }
 {
     let (first, last) = (range.first, range.last);
     if first == last {
@@ -123,7 +136,7 @@ fn push_range(text: &mut Vec<u8>, range: Range) -> io::Result<()>
 
 /// Adds an item in words.
 pub(crate) fn push_item(text: &mut Vec<u8>, item: &Item) -> io::Result<()>
-    ensures { OnOk result (Grows text.old.items text.new.items) }
+    ensures { OnOk result (text.new.items ≡ text.old.items ++ words_of (told_by item.now)) }
 {
     match item {
         Item::Sent {
@@ -145,7 +158,7 @@ pub(crate) fn push_item(text: &mut Vec<u8>, item: &Item) -> io::Result<()>
 
 /// Adds that a node learnt a slot.
 fn push_learnt(text: &mut Vec<u8>, entry: &LearntEntry) -> io::Result<()>
-    ensures { OnOk result (Grows text.old.items text.new.items) }
+    ensures { OnOk result (text.new.items ≡ text.old.items ++ words_of (slot_learnt entry.now)) }
 {
     let (node, slot) = (entry.node.value(), entry.slot.value());
     write!(text, "node {node} learns slot {slot}: ")?;
@@ -154,7 +167,7 @@ fn push_learnt(text: &mut Vec<u8>, entry: &LearntEntry) -> io::Result<()>
 
 /// Adds a reply.
 fn push_replied(text: &mut Vec<u8>, entry: &Replied) -> io::Result<()>
-    ensures { OnOk result (Grows text.old.items text.new.items) }
+    ensures { OnOk result (text.new.items ≡ text.old.items ++ words_of (reply_given entry.now)) }
 {
     let node = entry.node.value();
     write!(text, "node {node} replies to ")?;
@@ -163,7 +176,7 @@ fn push_replied(text: &mut Vec<u8>, entry: &Replied) -> io::Result<()>
 
 /// Adds to which request a reply is, and what it says.
 fn push_reply(text: &mut Vec<u8>, entry: &Replied) -> io::Result<()>
-    ensures { OnOk result (Grows text.old.items text.new.items) }
+    ensures { OnOk result (text.new.items ≡ text.old.items ++ (request_text entry.now.client entry.now.number ++ (codes ": " ++ reply_words entry.now.reply))) }
 {
     push_request(text, entry.client, entry.number.value())?;
     let (code, meaning) = (entry.reply.code(), reply_meaning(entry.reply));
@@ -172,7 +185,7 @@ fn push_reply(text: &mut Vec<u8>, entry: &Replied) -> io::Result<()>
 
 /// Adds an answer.
 fn push_answered(text: &mut Vec<u8>, entry: &Answered) -> io::Result<()>
-    ensures { OnOk result (Grows text.old.items text.new.items) }
+    ensures { OnOk result (text.new.items ≡ text.old.items ++ words_of (answer_given entry.now)) }
 {
     let (node, position) = (entry.node.value(), entry.position);
     write!(text, "node {node} answers at position {position}: ")?;
@@ -180,7 +193,7 @@ fn push_answered(text: &mut Vec<u8>, entry: &Answered) -> io::Result<()>
 }
 
 fn push_bytes(text: &mut Vec<u8>, bytes: &[u8]) -> io::Result<()>
-    ensures { OnOk result (Grows text.old.items text.new.items) }
+    ensures { OnOk result (text.new.items ≡ text.old.items ++ bytes.now) }
 {
     text.extend_from_slice(bytes)?;
     Ok(())
@@ -188,7 +201,7 @@ fn push_bytes(text: &mut Vec<u8>, bytes: &[u8]) -> io::Result<()>
 
 /// Adds that a node restored a checkpoint.
 fn push_restored(text: &mut Vec<u8>, node: NodeId, position: Position) -> io::Result<()>
-    ensures { OnOk result (Grows text.old.items text.new.items) }
+    ensures { OnOk result (text.new.items ≡ text.old.items ++ words_of (text_restored node position)) }
 {
     let (node, position) = (node.value(), position.value());
     write!(
@@ -199,7 +212,7 @@ fn push_restored(text: &mut Vec<u8>, node: NodeId, position: Position) -> io::Re
 
 /// Adds that a frame was lost.
 fn push_lost(text: &mut Vec<u8>) -> io::Result<()>
-    ensures { OnOk result (Grows text.old.items text.new.items) }
+    ensures { OnOk result (text.new.items ≡ text.old.items ++ words_of frame_lost) }
 {
     text.extend_from_slice(b"the frame came to a node that is down, and is lost")?;
     Ok(())
@@ -207,7 +220,7 @@ fn push_lost(text: &mut Vec<u8>) -> io::Result<()>
 
 /// Adds how a round of a node ended.
 fn push_round(text: &mut Vec<u8>, node: NodeId, end: RoundEnd) -> io::Result<()>
-    ensures { OnOk result (Grows text.old.items text.new.items) }
+    ensures { OnOk result (text.new.items ≡ text.old.items ++ words_of (round_ended node end)) }
 {
     let node = node.value();
     write!(text, "the round of node {node} ends: ")?;
@@ -216,7 +229,7 @@ fn push_round(text: &mut Vec<u8>, node: NodeId, end: RoundEnd) -> io::Result<()>
 
 /// Adds that a node refused.
 fn push_refused(text: &mut Vec<u8>, node: NodeId, fault: NodeFault) -> io::Result<()>
-    ensures { OnOk result (Grows text.old.items text.new.items) }
+    ensures { OnOk result (text.new.items ≡ text.old.items ++ words_of (node_refused node fault)) }
 {
     let (node, code) = (node.value(), fault.code());
     write!(text, "node {node} refuses: {code}, ")?;
@@ -225,7 +238,7 @@ fn push_refused(text: &mut Vec<u8>, node: NodeId, fault: NodeFault) -> io::Resul
 
 /// Adds that it stopped.
 fn push_stopped(text: &mut Vec<u8>, node: NodeId, fault: NodeFault) -> io::Result<()>
-    ensures { OnOk result (Grows text.old.items text.new.items) }
+    ensures { OnOk result (text.new.items ≡ text.old.items ++ words_of (node_stopped node fault)) }
 {
     let (node, code) = (node.value(), fault.code());
     write!(text, "node {node} stops: {code}, ")?;
@@ -234,7 +247,7 @@ fn push_stopped(text: &mut Vec<u8>, node: NodeId, fault: NodeFault) -> io::Resul
 
 /// Adds how a round by hand ended.
 pub(crate) fn push_end(text: &mut Vec<u8>, end: RoundEnd) -> io::Result<()>
-    ensures { OnOk result (Grows text.old.items text.new.items) }
+    ensures { OnOk result (text.new.items ≡ text.old.items ++ end_words end) }
 {
     match end {
         RoundEnd::NotAQuorum => write!(text, "the members are no quorum"),
@@ -267,7 +280,9 @@ pub(crate) fn push_end(text: &mut Vec<u8>, end: RoundEnd) -> io::Result<()>
 }
 
 /// What a reply means.
-pub(crate) fn reply_meaning(reply: SessionReply) -> &'static str {
+pub(crate) fn reply_meaning(reply: SessionReply) -> &'static str
+    ensures { result.now ≡ meaning_of reply }
+{
     match reply {
         SessionReply::Applied(Reply::Done) => "done",
         SessionReply::Applied(Reply::Unknown) => "there is no feature with this id",

@@ -1,8 +1,9 @@
 //! What writes a run down, line by line.
 
 ghost use Rattle.std.specs.Prelude.{[], ◌∷◌, IfOk, OnOk};
-ghost use Rattle.story.specs.Lines.{AddsLines, GrowsBy};
-ghost use Rattle.story.specs.Saying.{count_begin, fault_begins, help, item_begin, line_begin, world_help};
+ghost use Rattle.story.specs.Happenings.{told_by};
+ghost use Rattle.story.specs.Lines.{AddsLines, Says, whole};
+ghost use Rattle.story.specs.Saying.{count_said, fault_said, help, item_said, line_said, way_out, world_help};
 ghost use Rattle.story.specs.declared.writer.Form.TheVariants.{Words};
 
 use super::items::Item;
@@ -32,16 +33,16 @@ pub(crate) fn tell_line(
     form: Form,
     text: &mut Vec<u8>,
     number: u64,
-    line: &str,
+    line: &[u8],
 ) -> io::Result<()>
-    ensures { OnOk result (AddsLines text.old.items (line_begin form number ∷ []) text.new.items) }
+    ensures { OnOk result (AddsLines text.old.items (line_said form number line.now ∷ []) text.new.items) }
 {
     let line = line_in(alloc, form, number, line)?;
     push_line(text, line.as_slice())
 }
 
-fn line_in(alloc: Global, form: Form, number: u64, line: &str) -> io::Result<Vec<u8>>
-    ensures { IfOk result (λ line. GrowsBy (line_begin form number) [] line.items) }
+fn line_in(alloc: Global, form: Form, number: u64, line: &[u8]) -> io::Result<Vec<u8>>
+    ensures { IfOk result (λ text. Says (line_said form number line.now) text.items) }
 {
     match form {
         Form::Words => line_words(alloc, number, line),
@@ -57,17 +58,17 @@ pub(crate) fn tell_item(
     line: u64,
     item: &Item,
 ) -> io::Result<()>
-    ensures { OnOk result (AddsLines text.old.items (item_begin form line ∷ []) text.new.items) }
+    ensures { OnOk result (AddsLines text.old.items (item_said form line (told_by item.now) ∷ []) text.new.items) }
 {
     let line = item_in(alloc, form, line, item)?;
     push_line(text, line.as_slice())
 }
 
 fn item_in(alloc: Global, form: Form, line: u64, item: &Item) -> io::Result<Vec<u8>>
-    ensures { IfOk result (λ text. GrowsBy (item_begin form line) [] text.items) }
+    ensures { IfOk result (λ text. Says (item_said form line (told_by item.now)) text.items) }
 {
     match form {
-        Form::Words => item_words(alloc, item),
+        Form::Words => item_words(alloc, line, item),
         Form::Json => item_object(alloc, line, item),
     }
 }
@@ -81,17 +82,17 @@ pub(crate) fn tell_count(
     first: usize,
     count: usize,
 ) -> io::Result<()>
-    ensures { OnOk result (AddsLines text.old.items (count_begin form line count ∷ []) text.new.items) }
+    ensures { OnOk result (AddsLines text.old.items (count_said form line first count ∷ []) text.new.items) }
 {
     let line = count_in(alloc, form, line, first, count)?;
     push_line(text, line.as_slice())
 }
 
 fn count_in(alloc: Global, form: Form, line: u64, first: usize, count: usize) -> io::Result<Vec<u8>>
-    ensures { IfOk result (λ text. GrowsBy (count_begin form line count) [] text.items) }
+    ensures { IfOk result (λ text. Says (count_said form line first count) text.items) }
 {
     match form {
-        Form::Words => count_words(alloc, first, count),
+        Form::Words => count_words(alloc, line, first, count),
         Form::Json => count_object(alloc, line, first, count),
     }
 }
@@ -105,7 +106,7 @@ pub(crate) fn tell_fault(
     frames: usize,
     waiting: &[Range],
 ) -> io::Result<()>
-    ensures { OnOk result (AddsLines text.old.items (fault_begins form fault frames) text.new.items) }
+    ensures { OnOk result (AddsLines text.old.items (fault_said form fault frames waiting.now) text.new.items) }
 {
     match form {
         Form::Words => tell_fault_words(alloc, text, fault, frames, waiting),
@@ -123,7 +124,7 @@ fn tell_fault_words(
     frames: usize,
     waiting: &[Range],
 ) -> io::Result<()>
-    ensures { OnOk result (AddsLines text.old.items (fault_begins Words fault frames) text.new.items) }
+    ensures { OnOk result (AddsLines text.old.items (fault_said Words fault frames waiting.now) text.new.items) }
 {
     let line = fault_words(alloc, fault)?;
     push_line(text, line.as_slice())?;
@@ -138,7 +139,7 @@ fn tell_help(
     frames: usize,
     waiting: &[Range],
 ) -> io::Result<()>
-    ensures { OnOk result (AddsLines text.old.items (help cause frames) text.new.items) }
+    ensures { OnOk result (AddsLines text.old.items (help cause frames waiting.now) text.new.items) }
 {
     match cause {
         ReplayCause::Schedule(_) => Ok(()),
@@ -153,7 +154,7 @@ fn tell_world_help(
     frames: usize,
     waiting: &[Range],
 ) -> io::Result<()>
-    ensures { OnOk result (AddsLines text.old.items (world_help fault frames) text.new.items) }
+    ensures { OnOk result (AddsLines text.old.items (world_help fault frames waiting.now) text.new.items) }
 {
     match fault {
         WorldFault::NoSuchFrame => tell_frames(alloc, text, frames),
@@ -166,7 +167,7 @@ fn tell_world_help(
 
 /// Tells how many frames there are.
 fn tell_frames(alloc: Global, text: &mut Vec<u8>, frames: usize) -> io::Result<()>
-    ensures { OnOk result (AddsLines text.old.items (world_help WorldFault.NoSuchFrame frames) text.new.items) }
+    ensures { OnOk result (AddsLines text.old.items (world_help WorldFault.NoSuchFrame frames []) text.new.items) }
 {
     let line = frames_words(alloc, frames)?;
     push_line(text, line.as_slice())
@@ -174,7 +175,7 @@ fn tell_frames(alloc: Global, text: &mut Vec<u8>, frames: usize) -> io::Result<(
 
 /// Tells which frames wait where a flush doesn't end, and what ends it.
 fn tell_waiting(alloc: Global, text: &mut Vec<u8>, waiting: &[Range]) -> io::Result<()>
-    ensures { OnOk result (AddsLines text.old.items (world_help WorldFault.FlushLimit 0) text.new.items) }
+    ensures { OnOk result (AddsLines text.old.items (world_help WorldFault.FlushLimit 0 waiting.now) text.new.items) }
 {
     let line = waiting_words(alloc, waiting)?;
     push_line(text, line.as_slice())?;
@@ -183,7 +184,7 @@ fn tell_waiting(alloc: Global, text: &mut Vec<u8>, waiting: &[Range]) -> io::Res
 
 /// Tells what ends such a flush.
 fn tell_way_out(alloc: Global, text: &mut Vec<u8>) -> io::Result<()>
-    ensures { OnOk result (AddsLines text.old.items ([] ∷ []) text.new.items) }
+    ensures { OnOk result (AddsLines text.old.items (whole way_out ∷ []) text.new.items) }
 {
     let line = way_out_words(alloc)?;
     push_line(text, line.as_slice())

@@ -1,5 +1,5 @@
 use Rattle.std.proofs.Common.{map, take}
-use Rattle.diagram.specs.Pictures.{AreThere, title_in}
+use Rattle.diagram.specs.Pictures.{AreThere, group_in}
 use Rattle.diagram.specs.Titles.{Draws}
 use Rattle.diagram.proofs.arrow_lines.draw_all.Given as goal
 
@@ -7,5 +7,5 @@ use Rattle.diagram.proofs.arrow_lines.draw_all.Given as goal
 abbrev pub invariant-loop-arrow : goal.invariant-loop-arrow
 invariant-loop-arrow l = record {
   drawn : AreThere l.scene.frames.now l.arrows
-      → Draws l.initial.picture (map (title_in l.scene.frames.now) (take l.arrow-index l.arrows)) l.picture;
+      → Draws l.initial.picture (map (group_in l.scene.frames.now) (take l.arrow-index l.arrows)) l.picture;
 }

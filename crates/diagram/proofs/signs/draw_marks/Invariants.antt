@@ -1,7 +1,7 @@
-use Rattle.std.proofs.Common.{[]}
-use Rattle.diagram.specs.Titles.{Draws}
+use Rattle.std.proofs.Common.{take}
+use Rattle.diagram.specs.Shown.{DrawsStanding}
 use Rattle.diagram.proofs.signs.draw_marks.Given as goal
 
--- no frame's group begins
+-- the marks so far are drawn, if they stand somewhere
 abbrev pub invariant-loop-mark : goal.invariant-loop-mark
-invariant-loop-mark l = Draws l.initial.picture [] l.picture
+invariant-loop-mark l = DrawsStanding l.layout.ends.items (take l.mark-index l.scene.marks.now) l.initial.picture l.picture

@@ -3,4 +3,4 @@ use Rattle.story.proofs.account.tell_next.Goals as goal
 
 pub returns-else-manner-clause-lines : goal.returns-else-manner-clause-lines
 returns-else-manner-clause-lines c =
-    not_told c.args.manner c.args.ledger.now c.args.place c.args.entry c.in-Frame.number c.args.text.now.items c.in-Frame.is c.if-manner.false
+    not_told c.args.manner c.args.ledger.now _ c.args.place c.args.entry c.in-Frame.number c.args.text.now.items c.in-Frame.is c.if-manner.false

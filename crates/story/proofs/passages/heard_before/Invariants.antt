@@ -4,4 +4,4 @@ use Rattle.story.proofs.passages.heard_before.Given as goal
 
 -- what was heard came before
 abbrev pub invariant-loop-before : goal.invariant-loop-before
-invariant-loop-before l = IfSome l.heard (HearsIn l.first l.passages l.number)
+invariant-loop-before l = IfSome l.heard (HearsIn l.frames l.first l.passages l.number)

@@ -5,5 +5,5 @@ use Rattle.story.proofs.passages.send_each_late.Given as goal
 abbrev pub invariant-loop-number : goal.invariant-loop-number
 invariant-loop-number l = record {
   came : SameComings l.fn.passages l.passages;
-  sent : StillSent l.first l.fn.passages l.passages;
+  sent : StillSent l.frames l.first l.fn.passages l.passages;
 }

@@ -6,4 +6,4 @@ use Rattle.story.proofs.writer.tell_help.Goals as goal
 
 pub returns-in-Schedule : goal.returns-in-Schedule
 returns-in-Schedule c =
-    subst (λ (x : ReplayCause). AddsLines c.args.text.now.items (help x c.args.frames) c.args.text.now.items) (sym c.in-Schedule.is) none
+    subst (λ (x : ReplayCause). AddsLines c.args.text.now.items (help x c.args.frames c.args.waiting.now) c.args.text.now.items) (sym c.in-Schedule.is) none

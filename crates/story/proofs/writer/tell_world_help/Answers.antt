@@ -6,12 +6,12 @@ use Rattle.story.proofs.writer.tell_world_help.Goals as goal
 
 pub returns-in-NoSuchNode : goal.returns-in-NoSuchNode
 returns-in-NoSuchNode c =
-    subst (λ (x : WorldFault). AddsLines c.args.text.now.items (world_help x c.args.frames) c.args.text.now.items) (sym c.in-NoSuchNode.is) none
+    subst (λ (x : WorldFault). AddsLines c.args.text.now.items (world_help x c.args.frames c.args.waiting.now) c.args.text.now.items) (sym c.in-NoSuchNode.is) none
 
 pub returns-in-Memory : goal.returns-in-Memory
 returns-in-Memory c =
-    subst (λ (x : WorldFault). AddsLines c.args.text.now.items (world_help x c.args.frames) c.args.text.now.items) (sym c.in-Memory.is) none
+    subst (λ (x : WorldFault). AddsLines c.args.text.now.items (world_help x c.args.frames c.args.waiting.now) c.args.text.now.items) (sym c.in-Memory.is) none
 
 pub returns-in-NotEmpty : goal.returns-in-NotEmpty
 returns-in-NotEmpty c =
-    subst (λ (x : WorldFault). AddsLines c.args.text.now.items (world_help x c.args.frames) c.args.text.now.items) (sym c.in-NotEmpty.is) none
+    subst (λ (x : WorldFault). AddsLines c.args.text.now.items (world_help x c.args.frames c.args.waiting.now) c.args.text.now.items) (sym c.in-NotEmpty.is) none

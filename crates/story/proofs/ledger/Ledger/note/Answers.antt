@@ -27,7 +27,7 @@ returns-in-Ok-clause-complete c =
       ends = ends_noted _ _ s e ∙ c.count_lists-ends.ensures;
       passages = passages ∙ ap (λ (k : Counts). k.frames) c.count_lists-ends.ensures;
       came = passages_noted _ _ s _ _ e noted c.requires.kept.came;
-      sent = sent_noted _ _ s _ _ e noted sending c.requires.kept.passages passages c.requires.kept.sent;
+      sent = sent_noted _ _ _ s _ _ e noted sending c.requires.kept.passages passages c.requires.kept.sent;
       waiting = c.requires.kept.searched.one_each;
     }
 
@@ -48,6 +48,6 @@ returns-in-Ok-clause-kept c =
       within = equal_within _ _ (ends_noted _ _ s e ∙ c.count_lists-ends.ensures);
       passages = passages ∙ ap (λ (k : Counts). k.frames) (sym (ends_noted _ _ s e));
       came = passages_noted _ _ s _ _ e noted c.requires.kept.came;
-      sent = sent_noted _ _ s _ _ e noted sending c.requires.kept.passages passages c.requires.kept.sent;
+      sent = sent_noted _ _ _ s _ _ e noted sending c.requires.kept.passages passages c.requires.kept.sent;
       searched = c.requires.kept.searched;
     }

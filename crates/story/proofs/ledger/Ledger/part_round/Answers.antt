@@ -1,5 +1,6 @@
 -- Frame by frame, a round is parted into steps.
-use Rattle.std.proofs.Common.{◌<◌, ◌≤◌, ◌∙◌, length, get_or, true, subst, refl, ap, arith}
+use Rattle.std.proofs.Common.{◌≡◌, ◌<◌, ◌≤◌, ◌∙◌, List, drop, length, get_or, true, subst, refl, ap, arith}
+use Rattle.wire.specs.declared.frames.envelope.Envelope.{Envelope}
 use Rattle.world.specs.Seen.{world_of}
 use Rattle.std.proofs.lemmas.Option.{slice_get-get_or}
 use Rattle.story.specs.Ledgers.{counted}
@@ -41,6 +42,8 @@ loop-index-preserved c =
 
 pub returns-clause-kept : goal.returns-clause-kept
 returns-clause-kept c =
+    let is_late : c.as_slice.result.now ≡ drop c.args.first (world_of c.loop-index.self.world).frames =
+    c.as_slice.ensures.value ∙ c.in-Ok.ensures ∙ ap (λ (es : List Envelope). drop c.args.first es) c.frames.ensures in
     let before = c.loop-index.invariant.kept in
     let within : (counted c.loop-index.self).frames ≤ length (world_of c.args.self.now.world).frames =
     omega (arith, before.within.frames, ap (λ w. length w.frames) c.loop-index.invariant.still.world) in
@@ -52,6 +55,6 @@ returns-clause-kept c =
       within = before.within;
       passages = late.count ∙ before.passages;
       came = passages_same _ _ _ late.came before.came;
-      sent = late.sent.kept _ before.counts round before.came before.sent;
+      sent = late.sent.kept _ _ is_late before.counts round before.came before.sent;
       searched = before.searched;
     }

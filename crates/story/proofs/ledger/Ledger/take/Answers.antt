@@ -6,7 +6,7 @@ use Rattle.world.specs.Seen.{world_of}
 use Rattle.story.specs.declared.deeds.Deed.{Deed}
 use Rattle.story.specs.Ledgers.{counted}
 use Rattle.story.specs.Passing.{DeliversOneOf}
-use Rattle.story.proofs.Growing.{done_has, done_searched, refused_has, refused_searched}
+use Rattle.story.proofs.Growing.{done_has, done_searched, done_sent, refused_has, refused_searched, refused_sent}
 use Rattle.story.proofs.NotingLemmas.{was_sent}
 use Rattle.story.proofs.ledger.Ledger.take.Goals as goal
 
@@ -17,7 +17,7 @@ note-requires-clause-kept c = record {
   within = done_has (counted c.args.self.now) _ c.args.action _ _ c.in-Ok.ensures.done c.requires.kept.within;
   passages = c.requires.kept.passages;
   came = c.requires.kept.came;
-  sent = c.requires.kept.sent;
+  sent = done_sent c.args.self.now.steps.items c.args.self.now.passages.items _ c.args.action _ _ c.in-Ok.ensures.done c.requires.kept.sent;
   searched = done_searched c.args.self.now.lowest _ c.args.action _ _ c.in-Ok.ensures.done c.requires.kept.searched;
 }
 
@@ -34,6 +34,6 @@ returns-in-Err-clause-kept c =
       within = refused_has (counted c.args.self.now) _ c.args.action _ h.why _ h.refused c.requires.kept.within;
       passages = c.requires.kept.passages;
       came = c.requires.kept.came;
-      sent = c.requires.kept.sent;
+      sent = refused_sent c.args.self.now.steps.items c.args.self.now.passages.items _ c.args.action _ h.why _ h.refused c.requires.kept.sent;
       searched = refused_searched c.args.self.now.lowest _ c.args.action _ h.why _ h.refused c.requires.kept.searched;
     }

@@ -1,0 +1,9 @@
+use Rattle.story.specs.Happenings.{round_ended}
+use Rattle.story.specs.Wordings.{words_of}
+use Rattle.story.proofs.LineLemmas.{in_parts}
+use Rattle.story.proofs.words.push_round.Goals as goal
+
+pub returns : goal.returns
+returns c =
+    in_parts c.push_end.result (words_of (round_ended c.args.node c.args.end)) _ _ _ _ _ c.in_ok-write.ensures.bytes c.push_end.ensures
+    (rw (c.value-node.ensures.value))
