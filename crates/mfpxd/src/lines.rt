@@ -3,6 +3,7 @@
 ghost use Rattle.std.specs.Prelude.{[], All};
 ghost use Rattle.serving.specs.Owing.{HasRoom};
 ghost use Rattle.serving.specs.Tapes.{heard_in};
+ghost use Rattle.serving.specs.Waitings.{lines_of};
 
 use crate::client::{Client, Heard};
 use crate::reading::ROOM;
@@ -115,7 +116,7 @@ impl Lines {
         place: usize,
         waiting: &Waiting,
     ) -> Result<Option<Came>, AllocError>
-        ensures { All (HasRoom waiting.now) (heard_in result) }
+        ensures { All (HasRoom waiting.now) (heard_in (lines_of waiting.now) result) }
     {
         let Some(Some(client)) = self.clients.get_mut(place) else {
             return Ok(None);

@@ -14,4 +14,4 @@ abbrev pub talked_by : Said → Talk
 talked_by (said.Heard connection text) = Heard connection text.items
 talked_by (said.Went connection) = Went connection
 talked_by (said.Told connection text) = Told connection text.items
-talked_by said.Nothing = NothingHeard
+talked_by (said.Nothing lines) = NothingHeard lines.items

@@ -31,8 +31,8 @@ pub enum Said {
     Went { connection: u64 },
     /// It was told a text.
     Told { connection: u64, text: Vec<u8> },
-    /// No client had done anything that may be read.
-    Nothing,
+    /// No client had done anything that may be read, where lines of these connections waited.
+    Nothing { lines: Vec<u64> },
 }
 
 /// What came to a node, and what it sent.
@@ -150,13 +150,15 @@ impl Desk for Counter {
         }
         self.is_whole = false;
         let Some(came) = self.came.pop_front() else {
-            self.said.push(Said::Nothing)?;
+            let lines = waiting.lines(alloc)?;
+            self.said.push(Said::Nothing { lines })?;
             self.is_whole = true;
             return Ok(None);
         };
         if has_no_room(&came, waiting) {
             self.came.push_front(came)?;
-            self.said.push(Said::Nothing)?;
+            let lines = waiting.lines(alloc)?;
+            self.said.push(Said::Nothing { lines })?;
             self.is_whole = true;
             return Ok(None);
         }

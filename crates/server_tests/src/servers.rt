@@ -1,7 +1,7 @@
 //! What clients of three processes are told.
 
 use crate::processes::Trio;
-use serving::{MOST_CLAIMS, MOST_IN_A_TURN};
+use serving::{MOST_CLAIMS, MOST_IN_A_TURN, TurnFault};
 use std::fs;
 use std::test::Fail;
 
@@ -174,5 +174,13 @@ fn so_many_lines_of_a_connection_wait_at_most(rt: HostRuntime) -> Result<(), Fai
     let told = trio.told(alloc, 1, 4)?;
     assert_eq!(rt; told.len(), (MOST_CLAIMS + 8) * "answer 1 count 0\n".len());
     fs::remove_dir_all(&rt, FOLDER)?;
+    Ok(())
+}
+
+#[test]
+fn a_process_says_that_memory_ran_out(rt: HostRuntime) -> Result<(), Fail> {
+    let fault = TurnFault::Memory;
+    let told = format!(in rt.alloc(); "{fault}")?;
+    assert_eq!(rt; told.as_str(), "out of memory");
     Ok(())
 }

@@ -22,9 +22,10 @@ use Rattle.serving.specs.declared.waiting.Question.{Question}
 use Rattle.serving.specs.Outgoing.{IsFrameOf, IsPacketOf, IsReplyIn, IsTextTo, KeepsLess}
 use Rattle.serving.specs.Knowing.{IsPosition}
 use Rattle.serving.specs.Serving.{PassesOnly, ServerState, Serves, ServesClients, ServesNodes, ServesOver, asking}
-use Rattle.serving.specs.Tapes.{Carried, Talk, Told}
+use Rattle.serving.specs.Tapes.{Carried, Talk, Told, told_in}
 use Rattle.serving.proofs.Coming.{none_passes, none_said}
 use Rattle.serving.proofs.Holding.{holds_less, holds_same, less_itself}
+use Rattle.serving.proofs.Ripening.{serves_losing}
 use Rattle.serving.proofs.Leading.{serves_doing, serves_quiet, serves_then}
 use Rattle.serving.proofs.HandingOn.{serves_handing_on}
 use Rattle.serving.proofs.LettingOut.{less_due, serves_answering, serves_letting_out, serves_line, serves_ripening}
@@ -182,16 +183,23 @@ module _ {S D : Type 0} (storages : Ghosts S) (tape : D → List Talk) (Talks : 
       (sym (next ∙ ap (λ (w : Due). w ∷ waiting.due) is)) in
       subst (λ (s : ServerState S). ServesClients storages tape Talks s d new e) (one ∙ two) h
 
-  pub clients_line : (old : ServerState S) (waiting : WaitingState) (what : Due) (connection : ℕ) (text : Vec ℕ) (shown : List ℕ) (d e : D)
-      → old.waiting.due ≡ what ∷ waiting.due → waiting ≡ record old.waiting { due = waiting.due }
-      → what ≡ due.Line connection text → shown ≡ text.items → (Talks e → tape e ≡ tape d ++ Told connection shown ∷ [])
-      → (Talks e → Talks d) → ServesClients storages tape Talks old d (record old { waiting = waiting }) e
-  clients_line old waiting what connection text shown d e next same is spelled passed told = record {
+  -- a line that is due is told, or memory is wanting
+  pub clients_line : {E : Type 0} (old : ServerState S) (waiting : WaitingState) (what : Due) (connection : ℕ) (text : Vec ℕ)
+      (shown : List ℕ) (d e : D) (result : Result (Unit {0}) E) → old.waiting.due ≡ what ∷ waiting.due
+      → waiting ≡ record old.waiting { due = waiting.due } → what ≡ due.Line connection text → shown ≡ text.items
+      → (Talks e → tape e ≡ tape d ++ told_in connection shown result) → (Talks e → Talks d)
+      → ServesClients storages tape Talks old d (record old { waiting = waiting }) e
+  clients_line old waiting what connection text shown d e (Ok done) next same is spelled passed told = record {
     said = Told connection text.items ∷ [];
     serves = subst (λ (w : WaitingState). Serves storages old [] (Told connection text.items ∷ []) (record old { waiting = w })) (sym same)
         (serves_line storages old waiting.due connection text (next ∙ ap (λ (w : Due). w ∷ waiting.due) is));
     talks = passes_as tape Talks d e (Told connection shown ∷ []) (Told connection text.items ∷ []) passed told
         (ap (λ (b : List ℕ). Told connection b ∷ []) spelled);
+  }
+  clients_line old waiting what connection text shown d e (Err fault) next same is spelled passed told = record {
+    said = [];
+    serves = serves_losing storages old (record old { waiting = waiting }) what waiting.due refl next same refl;
+    talks = passes_as tape Talks d e [] [] passed told refl;
   }
 
   -- nothing waits otherwise

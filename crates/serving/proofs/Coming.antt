@@ -22,7 +22,7 @@ use Rattle.serving.specs.declared.waiting.Due.{Due}
 use Rattle.serving.specs.declared.waiting.Question.{Question}
 use Rattle.serving.specs.Requesting.{RequestState, fresh_request, is_known, with_request}
 use Rattle.serving.specs.Serving.{ServerState, Serves}
-use Rattle.serving.specs.Tapes.{Arrived, Heard, NothingCame, NothingHeard, Went}
+use Rattle.serving.specs.Tapes.{Arrived, Heard, NothingCame, NothingHeard, PollFailed, ReadingFailed, Went}
 use Rattle.serving.specs.Turns.{Past, first_position, later, handed_on, HasAsked, HasQueried, HasWritten, IsOfProcess, MayBeDue, MayBeHandedOn, MayBeSaid, MayCome, MayPass}
 use Rattle.serving.proofs.Holding.{EachOld, Holds, IsNow, each_pushed, each_same, holds_same}
 use Rattle.serving.proofs.Leading.{serves_doing, serves_quiet}
@@ -36,6 +36,9 @@ arrival_passes bytes past = All-cons (MayPass past) (Arrived bytes) [] tt (All-n
 
 nothing_passes : (past : Past) → All (MayPass past) (NothingCame ∷ [])
 nothing_passes past = All-cons (MayPass past) NothingCame [] tt (All-nil (MayPass past))
+
+failure_passes : (past : Past) → All (MayPass past) (PollFailed ∷ [])
+failure_passes past = All-cons (MayPass past) PollFailed [] tt (All-nil (MayPass past))
 
 pub none_said : {S : Type 0} (storages : Ghosts S) (first : NodeState S) (past : Past) → All (MayBeSaid storages first past) []
 none_said storages first past = All-nil (MayBeSaid storages first past)
@@ -52,11 +55,17 @@ going_said storages connection first past =
     let P = MayBeSaid storages first past in
     All-cons P (Went connection) [] tt (All-nil P)
 
-nothing_said : {S : Type 0} (storages : Ghosts S) (first : NodeState S) (past : Past)
-    → All (MayBeSaid storages first past) (NothingHeard ∷ [])
-nothing_said storages first past =
+nothing_said : {S : Type 0} (storages : Ghosts S) (lines : List ℕ) (first : NodeState S) (past : Past)
+    → All (MayBeSaid storages first past) (NothingHeard lines ∷ [])
+nothing_said storages lines first past =
     let P = MayBeSaid storages first past in
-    All-cons P NothingHeard [] tt (All-nil P)
+    All-cons P (NothingHeard lines) [] tt (All-nil P)
+
+failure_said : {S : Type 0} (storages : Ghosts S) (first : NodeState S) (past : Past)
+    → All (MayBeSaid storages first past) (ReadingFailed ∷ [])
+failure_said storages first past =
+    let P = MayBeSaid storages first past in
+    All-cons P ReadingFailed [] tt (All-nil P)
 
 -- ---- what was just written
 pub just_written : (connection : ℕ) (text : List ℕ) (asked : ClientLine) → IsClientLine text asked
@@ -123,10 +132,19 @@ module _ {S : Type 0} (storages : Ghosts S) where
   serves_nothing_came s =
       serves_quiet storages s s (NothingCame ∷ []) [] refl nothing_passes (none_said storages) (holds_same [] s s refl refl)
 
-  pub serves_nothing_heard : (s : ServerState S) → Serves storages s [] (NothingHeard ∷ []) s
-  serves_nothing_heard s =
-      serves_quiet storages s s [] (NothingHeard ∷ []) refl none_passes (nothing_said storages)
-      (holds_same (NothingHeard ∷ []) s s refl refl)
+  pub serves_failed_poll : (s : ServerState S) → Serves storages s (PollFailed ∷ []) [] s
+  serves_failed_poll s =
+      serves_quiet storages s s (PollFailed ∷ []) [] refl failure_passes (none_said storages) (holds_same [] s s refl refl)
+
+  pub serves_nothing_heard : (s : ServerState S) (lines : List ℕ) → Serves storages s [] (NothingHeard lines ∷ []) s
+  serves_nothing_heard s lines =
+      serves_quiet storages s s [] (NothingHeard lines ∷ []) refl none_passes (nothing_said storages lines)
+      (holds_same (NothingHeard lines ∷ []) s s refl refl)
+
+  pub serves_failed_reading : (s : ServerState S) → Serves storages s [] (ReadingFailed ∷ []) s
+  serves_failed_reading s =
+      serves_quiet storages s s [] (ReadingFailed ∷ []) refl none_passes (failure_said storages)
+      (holds_same (ReadingFailed ∷ []) s s refl refl)
 
   -- ---- from other nodes
   -- bytes that are passed over

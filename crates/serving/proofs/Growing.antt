@@ -20,7 +20,7 @@ use Rattle.serving.specs.declared.waiting.Due.TheVariants as due
 use Rattle.serving.specs.declared.waiting.Question.{Question}
 use Rattle.serving.specs.Knowing.{WasSo}
 use Rattle.serving.specs.Requesting.{RequestState}
-use Rattle.serving.specs.Tapes.{Carried, Sent, Arrived, NothingCame, NothingHeard, Talk, Heard, Went, Told}
+use Rattle.serving.specs.Tapes.{Carried, Sent, Arrived, NothingCame, NothingHeard, PollFailed, ReadingFailed, Talk, Heard, Went, Told}
 use Rattle.serving.specs.Turns.{Past, later, HasWritten, HasAsked, HasQueried, IsHandedOnLine, IsPlain, refused, faulty, status, last}
 use Rattle.serving.specs.Turns.{MayBeDue, MayBeHandedOn, MayBeSaid, MayCome, MayHappen, MayPass, IsOfClient}
 
@@ -139,6 +139,7 @@ passes_still p q g (Sent to bytes) (inl h) = inl (record {
 passes_still p q g (Sent to bytes) (inr h) = inr (on_line_in p.talk q.talk g.talk bytes h)
 passes_still p q g (Arrived bytes) h = h
 passes_still p q g NothingCame h = h
+passes_still p q g PollFailed h = h
 
 pub said_still : {S : Type 0} (storages : Ghosts S) (first : NodeState S) (p q : Past)
     → IsAmong (WasSo storages first p.history) (WasSo storages first q.history) → Grows p q → (x : Talk)
@@ -164,7 +165,8 @@ said_still storages first p q among g (Told connection text) (inr (inr h)) =
     inr (inr (plain_in (WasSo storages first p.history) (WasSo storages first q.history) among p.talk q.talk g.talk connection text h))
 said_still storages first p q among g (Heard connection text) h = h
 said_still storages first p q among g (Went connection) h = h
-said_still storages first p q among g NothingHeard h = h
+said_still storages first p q among g (NothingHeard lines) h = h
+said_still storages first p q among g ReadingFailed h = h
 
 of_client_still : (p q : Past) → Grows p q → (submission : Submission) → IsOfClient p.talk submission → IsOfClient q.talk submission
 of_client_still p q g submission h = record {

@@ -12,7 +12,7 @@ use Rattle.wire.specs.FrameSpelling.{spelling}
 use Rattle.serving.specs.Outgoing.{IsArrival, IsFrameOf, IsPacketOf, IsRightlySent}
 use Rattle.serving.specs.Requesting.{HandsOnFirst, RequestState}
 use Rattle.serving.specs.Serving.{PassesOnly, ServerState, Serves}
-use Rattle.serving.specs.Tapes.{Carried, Sent, Arrived, NothingCame}
+use Rattle.serving.specs.Tapes.{Carried, Sent, Arrived, NothingCame, PollFailed}
 use Rattle.serving.specs.Turns.{Past, handed_on, later, IsHandedOnLine, MayBeHandedOn, MayBeSaid, MayHappen, MayPass}
 use Rattle.serving.proofs.Growing.{in_left, on_line_in}
 use Rattle.serving.proofs.Holding.{holds_same}
@@ -28,6 +28,7 @@ pub arrival_right : (leader : Option ℕ) (own : ℕ) (x : Carried) → IsArriva
 arrival_right leader own (Sent to bytes) h = absurd h
 arrival_right leader own (Arrived bytes) h = tt
 arrival_right leader own NothingCame h = tt
+arrival_right leader own PollFailed h = tt
 
 -- no frame begins with the mark
 unmarked : (e : Envelope) (line : List ℕ) → spelling e ≡ handed_on line → ⊥
@@ -39,12 +40,14 @@ pub frame_right : (leader : Option ℕ) (own : ℕ) (frames : List Envelope) (x 
 frame_right leader own frames (Sent to bytes) h = λ line is. absurd (unmarked h.frame line (sym h.spelled.spelled ∙ is))
 frame_right leader own frames (Arrived bytes) h = tt
 frame_right leader own frames NothingCame h = tt
+frame_right leader own frames PollFailed h = tt
 
 pub packet_right : (leader : Option ℕ) (own : ℕ) (packet : List ℕ) (x : Carried) → IsPacketOf leader own packet x
     → IsRightlySent leader own x
 packet_right leader own packet (Sent to bytes) h = λ line is. h.1
 packet_right leader own packet (Arrived bytes) h = tt
 packet_right leader own packet NothingCame h = tt
+packet_right leader own packet PollFailed h = tt
 
 -- one part after the other, in which it takes the same node for the one that leads
 pub rightly_from : {N : Type 0} (tape : N → List Carried) (Tells : N → Type 0) (timing now : TimingState) (own number : ℕ) (a b c : N)
@@ -114,6 +117,7 @@ module _ {S : Type 0} (storages : Ghosts S) where
       (subst (λ (b : List ℕ). IsHandedOnLine past.talk b) (sym is.0) line))
   packet_passes past carried leader own packet line (Arrived bytes) h = absurd h
   packet_passes past carried leader own packet line NothingCame h = absurd h
+  packet_passes past carried leader own packet line PollFailed h = absurd h
 
   -- to as many nodes as there are
   packets_pass : (s : ServerState S) (place : ℕ) (request : RequestState) (leader : Option ℕ) (own : ℕ) (packet : List ℕ)

@@ -1,5 +1,5 @@
 -- What the clients of a process did, as moves.
-use Rattle.std.proofs.Common.{◌≡◌, ℕ, List, [], ◌∷◌, ◌++◌, All, Option, Some, None, Result, Ok, Err, refl, sym, ap, subst, ◌∙◌}
+use Rattle.std.proofs.Common.{◌≡◌, ℕ, List, [], ◌∷◌, ◌++◌, All, true, false, Option, Some, None, Result, Ok, Err, refl, sym, ap, subst, ◌∙◌}
 use Rattle.std.specs.Global.{Vec}
 use Rattle.std.proofs.lemmas.List.Elements.{All-head}
 use Rattle.sessions.specs.declared.submission.Submission.{Submission}
@@ -20,7 +20,7 @@ use Rattle.clients.specs.declared.answer.Status.{Status}
 use Rattle.clients.specs.declared.line.ClientLine.TheVariants as line
 use Rattle.serving.specs.declared.waiting.Due.TheVariants as due
 use Rattle.serving.specs.Knowing.{IsLastNumber}
-use Rattle.serving.specs.Moves.{IsLineTaken, IsOwnAnswer, IsStatus, Moves, forgetting, input_of, owing}
+use Rattle.serving.specs.Moves.{IsLineTaken, IsOwnAnswer, IsStatus, Moves, Taking, forgetting, input_of, owing}
 use Rattle.serving.specs.Moves.IsLineTaken.{asks, owes, refuses, submits}
 use Rattle.serving.specs.Moves.IsOwnAnswer.{fault, last, status}
 use Rattle.serving.specs.Moves.Move.{forgets, hears, hears_nothing}
@@ -28,10 +28,11 @@ use Rattle.serving.specs.Owing.{HasRoom}
 use Rattle.serving.specs.Processes.{ProcessState}
 use Rattle.serving.specs.Refusals.{IsRefusal}
 use Rattle.serving.specs.Requesting.{RequestState, with_request}
+use Rattle.serving.specs.Resting.{IsReading}
 use Rattle.serving.specs.Serving.{Passes}
-use Rattle.serving.specs.Tapes.{Heard, NothingHeard, Talk, Went}
+use Rattle.serving.specs.Tapes.{Heard, NothingHeard, Talk, Went, read}
 use Rattle.serving.specs.Turns.{first_position}
-use Rattle.serving.specs.Waitings.{WaitingState}
+use Rattle.serving.specs.Waitings.{WaitingState, lines_of}
 use Rattle.serving.proofs.Moving.{moves_one, moves_to}
 use Rattle.serving.proofs.Passing.{passes_as}
 
@@ -122,12 +123,12 @@ module _ {S : Type 0} (storages : Ghosts S) where
   -- ---- as moves
   module _ (now : ℕ) where
     pub line_moves : (p q : ProcessState S) (connection : ℕ) (text : List ℕ) → HasRoom p.waiting (Heard connection text)
-        → IsLineTaken storages p connection text q → Moves storages now p [] (Heard connection text ∷ []) q
+        → IsLineTaken storages p connection text q → Moves storages now Taking p [] (Heard connection text ∷ []) q
     line_moves p q connection text room taken =
         moves_one storages now p q [] (Heard connection text ∷ []) (hears p q connection text room taken)
 
     pub gone_moves : (p q : ProcessState S) (connection : ℕ) → q ≡ record p { waiting = forgetting connection p.waiting }
-        → Moves storages now p [] (Went connection ∷ []) q
+        → Moves storages now Taking p [] (Went connection ∷ []) q
     gone_moves p q connection same =
         let moved : ProcessState S = record p { waiting = forgetting connection p.waiting } in
         moves_to storages now p moved q [] (Went connection ∷ [])
@@ -135,20 +136,23 @@ module _ {S : Type 0} (storages : Ghosts S) where
 
     -- ---- over the desk
     module _ {D : Type 0} (talk : D → List Talk) (Talks : D → Type 0) where
-      pub clients_moves_read : (p q : ProcessState S) (d e : D) (came : List Talk) (what : Talk) → came ≡ what ∷ []
-          → (Talks e → talk e ≡ talk d ++ came) → (Talks e → Talks d) → Moves storages now p [] (what ∷ []) q
-          → Passes talk Talks (λ said. Moves storages now p [] said q) d e
-      clients_moves_read p q d e came what is tape told h = record {
+      pub clients_reads : (p q : ProcessState S) (d e : D) (came : List Talk) (what : Talk) → came ≡ what ∷ [] → read what ≡ Some true
+          → (Talks e → talk e ≡ talk d ++ came) → (Talks e → Talks d) → Moves storages now Taking p [] (what ∷ []) q
+          → Passes talk Talks (λ xs. Moves storages now Taking p [] xs q × IsReading read xs true) d e
+      clients_reads p q d e came what is so tape told h = record {
         passed = what ∷ [];
-        are = h;
+        are = (h, (what, refl, so));
         passes = passes_as talk Talks d e came (what ∷ []) tape told is;
       }
 
-      pub clients_moves_read_nothing : (p : ProcessState S) (d e : D) (came : List Talk) → came ≡ NothingHeard ∷ []
+      pub clients_reads_nothing : (p : ProcessState S) (d e : D) (came : List Talk) → came ≡ NothingHeard (lines_of p.waiting) ∷ []
           → (Talks e → talk e ≡ talk d ++ came) → (Talks e → Talks d)
-          → Passes talk Talks (λ said. Moves storages now p [] said p) d e
-      clients_moves_read_nothing p d e came is tape told = record {
-        passed = NothingHeard ∷ [];
-        are = moves_one storages now p p [] (NothingHeard ∷ []) (hears_nothing p);
-        passes = passes_as talk Talks d e came (NothingHeard ∷ []) tape told is;
+          → Passes talk Talks (λ xs. Moves storages now Taking p [] xs p × IsReading read xs false) d e
+      clients_reads_nothing p d e came is tape told = record {
+        passed = NothingHeard (lines_of p.waiting) ∷ [];
+        are = (
+          moves_one storages now p p [] (NothingHeard (lines_of p.waiting) ∷ []) (hears_nothing p),
+          (NothingHeard (lines_of p.waiting), refl, refl),
+        );
+        passes = passes_as talk Talks d e came (NothingHeard (lines_of p.waiting) ∷ []) tape told is;
       }

@@ -4,7 +4,7 @@ use Rattle.stable.specs.declared.stable.Stable.{Ghosts}
 use Rattle.node_model.specs.declared.input.Input.TheVariants as input
 use Rattle.serving.specs.Knowing.{IsPosition}
 use Rattle.serving.specs.Learning.{Known}
-use Rattle.serving.specs.Moves.{IsGivenWhere, KeepsTime, Moves}
+use Rattle.serving.specs.Moves.{IsGivenWhere, KeepsTime, Moves, Taking, Telling}
 use Rattle.serving.specs.Moves.Move.{keeps_records, looks}
 use Rattle.serving.specs.Processes.{HasLooked, ProcessState, is_asked_in}
 use Rattle.serving.specs.Resting.{IsCheckpointed}
@@ -32,7 +32,7 @@ module _ {S : Type 0} (storages : Ghosts S) where
   -- a checkpoint, and then a trim
   pub moves_given_twice : (now : ℕ) (p q r : ProcessState S) → ¬ IsCheckpointed p.life.node → WasGiven storages p.life input.Checkpoint q.life
       → WasGiven storages q.life input.Trim r.life → q ≡ record p { life = q.life } → r ≡ record q { life = r.life }
-      → Moves storages now p [] [] r
+      → Moves storages now Taking p [] [] r
   moves_given_twice now p q r is checkpoint trim one two =
       moves_to storages now p (record p { life = r.life }) r [] []
       (moves_one storages now p (record p { life = r.life }) [] []
@@ -41,7 +41,7 @@ module _ {S : Type 0} (storages : Ghosts S) where
 
   -- it looks at its node's position
   pub moves_looking : (now : ℕ) (p : ProcessState S) (position : ℕ) (asked : Bool) (knows : TimingState) → IsPosition p.life.node position
-      → asked ≡ is_asked_in p → knows ≡ position_seen position asked now p.timing → Moves storages now p [] [] (record p { timing = knows })
+      → asked ≡ is_asked_in p → knows ≡ position_seen position asked now p.timing → Moves storages now Telling p [] [] (record p { timing = knows })
   moves_looking now p position asked knows at is seen =
       moves_to storages now p (record p { timing = position_seen position (is_asked_in p) now p.timing }) (record p { timing = knows }) [] []
       (moves_one storages now p (record p { timing = position_seen position (is_asked_in p) now p.timing }) [] [] (looks p position at))

@@ -39,10 +39,10 @@ keeps_none old new same = record {
 }
 
 -- no client does anything
-pub keeps_nothing_heard : (waiting : WaitingState) → KeepsEach (NothingHeard ∷ []) waiting waiting
-keeps_nothing_heard waiting =
-    keeps_by (NothingHeard ∷ []) waiting waiting
-    (λ c stays. omega (arith, count_one (is_line_of c) NothingHeard, count_one (is_text_to c) NothingHeard))
+pub keeps_nothing_heard : (waiting : WaitingState) (lines : List ℕ) → KeepsEach (NothingHeard lines ∷ []) waiting waiting
+keeps_nothing_heard waiting lines =
+    keeps_by (NothingHeard lines ∷ []) waiting waiting
+    (λ c stays. omega (arith, count_one (is_line_of c) (NothingHeard lines), count_one (is_text_to c) (NothingHeard lines)))
 
 -- a line comes, and one more waits
 heard_balance : (c connection : ℕ) (text : List ℕ) (old new : WaitingState)

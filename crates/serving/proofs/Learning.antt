@@ -20,7 +20,7 @@ use Rattle.serving.specs.Outgoing.{AreFramesOf, IsFrameOf, IsPacketOf}
 use Rattle.serving.specs.Outgoing.AreFramesOf.{none, next}
 use Rattle.serving.specs.Packets.{IsMessageTaken}
 use Rattle.serving.specs.Requesting.{is_marked}
-use Rattle.serving.specs.Tapes.{Carried, Sent, Arrived, NothingCame}
+use Rattle.serving.specs.Tapes.{Carried, Sent, Arrived, NothingCame, PollFailed}
 use Rattle.serving.specs.declared.requests.TheConstants.{HANDED_ON}
 use Rattle.serving.specs.Timings.{TimingState, all_own_seen, ballot_seen, own_seen, position_seen, renewed, seen}
 use Rattle.serving.specs.Turns.{handed_on}
@@ -112,6 +112,7 @@ learns_sent nodes frame (Sent to bytes) k h =
     ∙ ap (λ (r : Result Envelope WireFault). by_frame with_own r k) read ∙ ap (λ (e : Envelope). with_own e.message k) same
 learns_sent nodes frame (Arrived bytes) k h = absurd h
 learns_sent nodes frame NothingCame k h = absurd h
+learns_sent nodes frame PollFailed k h = absurd h
 
 pub learns_all_sent : (nodes now : ℕ) (frames : List Envelope) (sent : List Carried) (t : TimingState) → AreFramesOf frames sent
     → Follows nodes t (all_own_seen frames now t) sent
@@ -136,3 +137,5 @@ learns_packets nodes leader own packet k marked (Arrived bytes ∷ sent) h =
     absurd (All-head (IsPacketOf leader own packet) (Arrived bytes) sent h)
 learns_packets nodes leader own packet k marked (NothingCame ∷ sent) h =
     absurd (All-head (IsPacketOf leader own packet) NothingCame sent h)
+learns_packets nodes leader own packet k marked (PollFailed ∷ sent) h =
+    absurd (All-head (IsPacketOf leader own packet) PollFailed sent h)

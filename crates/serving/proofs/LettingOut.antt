@@ -15,7 +15,7 @@ use Rattle.life.proofs.TellingLemmas.{told_hands_out}
 use Rattle.serving.specs.Knowing.{WasSo}
 use Rattle.serving.specs.Outgoing.{IsFrameOf, IsReplyIn, IsTextTo, KeepsLess}
 use Rattle.serving.specs.Serving.{IsServing, ServerState, Serves, asking}
-use Rattle.serving.specs.Tapes.{Carried, Sent, Arrived, NothingCame, NothingHeard, Talk, Heard, Went, Told}
+use Rattle.serving.specs.Tapes.{Carried, Sent, Arrived, NothingCame, NothingHeard, PollFailed, ReadingFailed, Talk, Heard, Went, Told}
 use Rattle.serving.specs.Requesting.{RequestState}
 use Rattle.serving.specs.Turns.{Past, first_position, later, HasAsked, HasQueried, HasWritten, IsPlain, MayBeDue, MayBeSaid, MayHappen, MayPass}
 use Rattle.serving.specs.Waitings.{IsFirstRipe, WaitingState}
@@ -47,6 +47,7 @@ frame_passes past happened out carried talk (Sent to bytes) h = inl (record {
 })
 frame_passes past happened out carried talk (Arrived bytes) h = absurd h
 frame_passes past happened out carried talk NothingCame h = absurd h
+frame_passes past happened out carried talk PollFailed h = absurd h
 
 -- a reply of those, to who waits for it
 reply_is_said : {S : Type 0} (storages : Ghosts S) (first : NodeState S) (past : Past) (happened : List Happening) (out : ToldLists) (carried : List Carried) (talk : List Talk) (claims : _)
@@ -66,7 +67,8 @@ reply_is_said storages first past happened out carried talk claims asked (Told c
     })
 reply_is_said storages first past happened out carried talk claims asked (Heard connection text) h = absurd h
 reply_is_said storages first past happened out carried talk claims asked (Went connection) h = absurd h
-reply_is_said storages first past happened out carried talk claims asked NothingHeard h = absurd h
+reply_is_said storages first past happened out carried talk claims asked (NothingHeard lines) h = absurd h
+reply_is_said storages first past happened out carried talk claims asked ReadingFailed h = absurd h
 
 -- the answer to a query, to the connection that asked it
 text_is_said : {S : Type 0} (storages : Ghosts S) (first : NodeState S) (past : Past) (out : ToldLists) (talk : List Talk) (question : Question) (answered : Answered)
@@ -88,7 +90,8 @@ text_is_said storages first past out talk question answered asked listed query f
     }))
 text_is_said storages first past out talk question answered asked listed query from (Heard connection text) h = absurd h
 text_is_said storages first past out talk question answered asked listed query from (Went connection) h = absurd h
-text_is_said storages first past out talk question answered asked listed query from NothingHeard h = absurd h
+text_is_said storages first past out talk question answered asked listed query from (NothingHeard lines) h = absurd h
+text_is_said storages first past out talk question answered asked listed query from ReadingFailed h = absurd h
 
 module _ {S : Type 0} (storages : Ghosts S) where
   -- ---- what is held goes out

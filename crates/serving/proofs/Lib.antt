@@ -1,9 +1,11 @@
 pub mod Answering
 pub mod Arriving
+pub mod Breaking
 pub mod Checkpointing
 pub mod ClusterLemmas
 pub mod Coming
 pub mod Counts
+pub mod Ending
 pub mod Givings
 pub mod Growing
 pub mod HandingOn
@@ -27,5 +29,6 @@ pub mod Requested
 pub mod Ripening
 pub mod Sending
 pub mod Staying
+pub mod Stopping
 pub mod Submitted
 pub mod Taking

@@ -12,7 +12,7 @@ use Rattle.wire.specs.declared.frames.envelope.Envelope.{Envelope}
 use Rattle.world_model.specs.declared.lists.Replied.{Replied}
 use Rattle.serving.specs.declared.claims.Claim.{Claim}
 use Rattle.serving.specs.Outgoing.{IsFrameOf, IsReplyIn}
-use Rattle.serving.specs.Tapes.{Carried, Sent, Arrived, NothingCame, NothingHeard, Talk, Heard, Went, Told}
+use Rattle.serving.specs.Tapes.{Carried, Sent, Arrived, NothingCame, NothingHeard, PollFailed, ReadingFailed, Talk, Heard, Went, Told}
 
 contains_one : {A : Type 0} (x y : A) (xs : List A) → Contains xs x → Contains (x ∷ []) y → Contains xs y
 contains_one x y xs h k = All-contains (Contains xs) (x ∷ []) y (All-cons (Contains xs) x [] h (All-nil (Contains xs))) k
@@ -28,6 +28,7 @@ frame_of_one frames frame listed (Sent to bytes) h = record {
 }
 frame_of_one frames frame listed (Arrived bytes) h = absurd h
 frame_of_one frames frame listed NothingCame h = absurd h
+frame_of_one frames frame listed PollFailed h = absurd h
 
 -- a reply that goes out is one of those, to one of those who waited before
 pub reply_of_one : (replies : List Replied) (replied : Replied) (claims olds : List Claim) → Contains replies replied
@@ -44,7 +45,8 @@ reply_of_one replies replied claims olds listed kept (Told connection text) h = 
 }
 reply_of_one replies replied claims olds listed kept (Heard connection text) h = absurd h
 reply_of_one replies replied claims olds listed kept (Went connection) h = absurd h
-reply_of_one replies replied claims olds listed kept NothingHeard h = absurd h
+reply_of_one replies replied claims olds listed kept (NothingHeard lines) h = absurd h
+reply_of_one replies replied claims olds listed kept ReadingFailed h = absurd h
 
 both_parts : (a b : Bool) → (a && b) ≡ true → (a ≡ true) × (b ≡ true)
 both_parts true b h = (refl, h)

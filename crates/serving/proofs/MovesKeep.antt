@@ -21,11 +21,11 @@ use Rattle.life.specs.Lives.{GoesOn, LifeState}
 use Rattle.clients.specs.AnswerLines.{text_line}
 use Rattle.serving.specs.Claiming.{is_of}
 use Rattle.serving.specs.Learning.{Follows, Known, Learns, known_in, learn}
-use Rattle.serving.specs.Moves.{AreRepliesTold, IsGivenWhere, IsLineTaken, IsNextAnswered, IsPacketTaken, IsTurn, KeepsRecords, KeepsTime, Move, Moves, TakesOwn, claim_of, forgetting, input_of, owing}
+use Rattle.serving.specs.Moves.{AreRepliesTold, IsGivenWhere, IsLineTaken, IsNextAnswered, IsPacketTaken, IsTurn, KeepsRecords, KeepsTime, Move, Moves, Part, Taking, TakesAll, TakesOwn, Telling, claim_of, forgetting, input_of, owing}
 use Rattle.serving.specs.Moves.AreRepliesTold.{none as no_reply, next as next_reply}
 use Rattle.serving.specs.Moves.IsLineTaken.{submits, refuses, asks, owes}
 use Rattle.serving.specs.Moves.IsNextAnswered.{was_held_back, is_due}
-use Rattle.serving.specs.Moves.Move.{takes_packet, takes_own, finds_nothing, hears_nothing, hears, forgets, keeps_time, keeps_records}
+use Rattle.serving.specs.Moves.Move.{takes_packet, takes_own, finds_nothing, hears_nothing, hears, forgets, keeps_records}
 use Rattle.serving.specs.Moves.Move.{lets_out, answers, holds_back, tells, turns_away, clears, hands_on, looks}
 use Rattle.serving.specs.Moves.Moves.{none, next}
 use Rattle.serving.specs.Outgoing.{ArePacketsOf, IsPacketOf}
@@ -40,7 +40,7 @@ use Rattle.serving.specs.Staying.{StaysUp, WasGiven}
 use Rattle.serving.specs.Tapes.{Arrived, Carried, HasPassed, Heard, Sent, Talk, Told}
 use Rattle.serving.specs.Timings.{TimingState, campaigned, leader_in}
 use Rattle.serving.specs.Turns.{first_position, handed_on}
-use Rattle.serving.specs.Waitings.{WaitingState}
+use Rattle.serving.specs.Waitings.{WaitingState, lines_of}
 use Rattle.serving.specs.declared.claims.Claim.{Claim}
 use Rattle.serving.specs.declared.requests.TheConstants.{HANDED_ON}
 use Rattle.serving.specs.declared.server.Server.{Server}
@@ -50,7 +50,6 @@ use Rattle.serving.specs.declared.waiting.Question.{Question}
 use Rattle.serving.proofs.KeepingEach.{keeps_answer_told, keeps_claim, keeps_gone, keeps_held, keeps_line_due, keeps_line_told, keeps_none}
 use Rattle.serving.proofs.KeepingEach.{keeps_nothing_heard, keeps_question_due, keeps_ripe, keeps_settled}
 use Rattle.serving.proofs.Learning.{learns_all_sent, learns_line, learns_message, learns_packets, not_marked, position_known}
-use Rattle.serving.proofs.Moving.{moves_then}
 use Rattle.serving.proofs.Ripening.{keeps_turned_away}
 use Rattle.serving.proofs.Staying.{stays_itself, stays_refused, stays_said, stays_same, stays_then}
 
@@ -78,6 +77,13 @@ where_knows : {S : Type 0} {storages : Ghosts S} (Due : Type 0) (given : Input) 
 where_knows Due given noted knew knows old new same (inl h) = ap known_in h.2 ∙ same
 where_knows Due given noted knew knows old new same (inr h) = ap known_in h.2
 
+-- what is known follows from what passed first, and then from what passed next
+follows_then : (nodes others : ℕ) (a b c : TimingState) (sent more : List Carried) → others ≡ nodes → Follows nodes a b sent
+    → Follows others b c more → Follows nodes a c (sent ++ more)
+follows_then nodes others a b c sent more same one two =
+    subst (λ (n : ℕ). known_in c ≡ fold (learn n) (known_in b) more) same two
+    ∙ ap (λ (k : Known). fold (learn nodes) k more) one ∙ sym (fold-append (learn nodes) (known_in a) sent more)
+
 all_packets : (leader : Option ℕ) (own : ℕ) (packet : List ℕ) (count : ℕ) (sent : List Carried)
     → ArePacketsOf leader own packet count sent → All (IsPacketOf leader own packet) sent
 all_packets leader own packet _ _ no_packet = All-nil (IsPacketOf leader own packet)
@@ -100,7 +106,7 @@ each_said tape Tells said old new d e passed h = record {
   keeps = λ tells is. subst (λ (t : List Talk). AnswersEach t new) (sym (passed.passed_ tells)) (h.keeps (tape d) is);
 }
 
-each_reply : (claims : List Claim) (replies : List Replied) (said : List Talk) (left : List Claim) (w : WaitingState)
+pub each_reply : (claims : List Claim) (replies : List Replied) (said : List Talk) (left : List Claim) (w : WaitingState)
     → AreRepliesTold claims replies said left → w.claims ≡ claims → KeepsEach said w (record w { claims = left })
 each_reply claims _ _ _ w no_reply is = keeps_none w (record w { claims = claims }) (ap (λ (cs : List Claim). record w { claims = cs }) (sym is))
 each_reply claims _ _ _ w (next_reply replies said left replied before) is =
@@ -134,38 +140,37 @@ each_line storages p _ connection text (owes answered own) =
     keeps_line_due p.waiting (owing connection answered p.waiting) connection text answered refl
 
 module _ {S : Type 0} (storages : Ghosts S) (now : ℕ) where
-  each_move : (p q : ProcessState S) (sent : List Carried) (said : List Talk) → Move storages now p sent said q
+  each_move : (part : Part) (p q : ProcessState S) (sent : List Carried) (said : List Talk) → Move storages now part p sent said q
       → KeepsEach said p.waiting q.waiting
-  each_move _ _ _ _ (takes_packet p bytes life knows h) = keeps_none p.waiting p.waiting refl
-  each_move _ _ _ _ (takes_own p life h) = keeps_none p.waiting p.waiting refl
-  each_move _ _ _ _ (finds_nothing p) = keeps_none p.waiting p.waiting refl
-  each_move _ _ _ _ (hears_nothing p) = keeps_nothing_heard p.waiting
-  each_move _ _ _ _ (hears p q connection text room h) = each_line storages p q connection text h
-  each_move _ _ _ _ (forgets p connection) = keeps_gone p.waiting (forgetting connection p.waiting) connection refl
-  each_move _ _ _ _ (keeps_time p life knows h) = keeps_none p.waiting p.waiting refl
-  each_move _ _ _ _ (keeps_records p life h) = keeps_none p.waiting p.waiting refl
-  each_move _ _ _ _ (lets_out p sent said claims frames replies) =
+  each_move _ _ _ _ _ (takes_packet p bytes life knows h) = keeps_none p.waiting p.waiting refl
+  each_move _ _ _ _ _ (takes_own p life h) = keeps_none p.waiting p.waiting refl
+  each_move _ _ _ _ _ (finds_nothing p) = keeps_none p.waiting p.waiting refl
+  each_move _ _ _ _ _ (hears_nothing p) = keeps_nothing_heard p.waiting (lines_of p.waiting)
+  each_move _ _ _ _ _ (hears p q connection text room h) = each_line storages p q connection text h
+  each_move _ _ _ _ _ (forgets p connection) = keeps_gone p.waiting (forgetting connection p.waiting) connection refl
+  each_move _ _ _ _ _ (keeps_records p life h) = keeps_none p.waiting p.waiting refl
+  each_move _ _ _ _ _ (lets_out p sent said claims frames replies) =
       each_reply p.waiting.claims p.life.held.replies said claims p.waiting replies refl
-  each_move _ _ _ _ (answers p position question waiting said life silent at which h) =
+  each_move _ _ _ _ _ (answers p position question waiting said life silent at which h) =
       subst (λ (t : List Talk). KeepsEach t p.waiting waiting) (sym h.says)
       (each_answer position p.waiting waiting question (text_line h.told.0 h.told.1) which)
-  each_move _ _ _ _ (holds_back p position question rest first at before) =
+  each_move _ _ _ _ _ (holds_back p position question rest first at before) =
       let old = record p.waiting { due = rest } in
       let new = record p.waiting { questions = p.waiting.questions ++ question ∷ []; due = rest } in
       subst (λ (ds : List Due). KeepsEach [] (record p.waiting { due = ds }) new) (sym first) (keeps_held old new question refl)
-  each_move _ _ _ _ (tells p connection answered rest first) =
+  each_move _ _ _ _ _ (tells p connection answered rest first) =
       keeps_line_told p.waiting (record p.waiting { due = rest }) connection answered answered.items first refl
-  each_move _ _ _ _ (turns_away p claim rest refusal silent full first spelled) =
+  each_move _ _ _ _ _ (turns_away p claim rest refusal silent full first spelled) =
       keeps_turned_away p.waiting (owing claim.connection refusal (record p.waiting { claims = rest })) claim rest refusal first refl
-  each_move _ _ _ _ (clears p silent full) = keeps_none p.waiting p.waiting refl
-  each_move _ _ _ _ (hands_on p place requests sent silent goes_on first marked packets) = keeps_none p.waiting p.waiting refl
-  each_move _ _ _ _ (looks p position at) = keeps_none p.waiting p.waiting refl
+  each_move _ _ _ _ _ (clears p silent full) = keeps_none p.waiting p.waiting refl
+  each_move _ _ _ _ _ (hands_on p place requests sent silent goes_on first marked packets) = keeps_none p.waiting p.waiting refl
+  each_move _ _ _ _ _ (looks p position at) = keeps_none p.waiting p.waiting refl
 
-  pub moves_keep_each : (p q : ProcessState S) (sent : List Carried) (said : List Talk) → Moves storages now p sent said q
+  pub moves_keep_each : (part : Part) (p q : ProcessState S) (sent : List Carried) (said : List Talk) → Moves storages now part p sent said q
       → KeepsEach said p.waiting q.waiting
-  moves_keep_each _ _ _ _ (none p) = keeps_none p.waiting p.waiting refl
-  moves_keep_each _ _ _ _ (next p q r sent more said told before move) =
-      keeps_then said told p.waiting q.waiting r.waiting (moves_keep_each p q sent said before) (each_move q r more told move)
+  moves_keep_each part _ _ _ _ (none p) = keeps_none p.waiting p.waiting refl
+  moves_keep_each part _ _ _ _ (next p q r sent more said told before move) =
+      keeps_then said told p.waiting q.waiting r.waiting (moves_keep_each part p q sent said before) (each_move part q r more told move)
 
   -- ---- the node stays up
   given_stays : (old new : LifeState S) (given : Input) (result : Result Response NodeFault) → GoesOn storages old (Took given result) new
@@ -236,32 +241,31 @@ module _ {S : Type 0} (storages : Ghosts S) (now : ℕ) where
   line_stays p _ connection text (asks query position is) = stays_itself storages p.life.node
   line_stays p _ connection text (owes answered own) = stays_itself storages p.life.node
 
-  move_stays : (p q : ProcessState S) (sent : List Carried) (said : List Talk) → Move storages now p sent said q
+  move_stays : (part : Part) (p q : ProcessState S) (sent : List Carried) (said : List Talk) → Move storages now part p sent said q
       → StaysUp p.life.node q.life.node
-  move_stays _ _ _ _ (takes_packet p bytes life knows h) =
+  move_stays _ _ _ _ _ (takes_packet p bytes life knows h) =
       packet_stays p.nodes bytes p.life life p.timing knows h (marked_or_not bytes)
-  move_stays _ _ _ _ (takes_own p life h) = own_stays p.life life h
-  move_stays _ _ _ _ (finds_nothing p) = stays_itself storages p.life.node
-  move_stays _ _ _ _ (hears_nothing p) = stays_itself storages p.life.node
-  move_stays _ _ _ _ (hears p q connection text room h) = line_stays p q connection text h
-  move_stays _ _ _ _ (forgets p connection) = stays_itself storages p.life.node
-  move_stays _ _ _ _ (keeps_time p life knows h) = time_stays p life knows h
-  move_stays _ _ _ _ (keeps_records p life h) = records_stay p.life life h
-  move_stays _ _ _ _ (lets_out p sent said claims frames replies) = stays_itself storages p.life.node
-  move_stays _ _ _ _ (answers p position question waiting said life silent at which h) =
+  move_stays _ _ _ _ _ (takes_own p life h) = own_stays p.life life h
+  move_stays _ _ _ _ _ (finds_nothing p) = stays_itself storages p.life.node
+  move_stays _ _ _ _ _ (hears_nothing p) = stays_itself storages p.life.node
+  move_stays _ _ _ _ _ (hears p q connection text room h) = line_stays p q connection text h
+  move_stays _ _ _ _ _ (forgets p connection) = stays_itself storages p.life.node
+  move_stays _ _ _ _ _ (keeps_records p life h) = records_stay p.life life h
+  move_stays _ _ _ _ _ (lets_out p sent said claims frames replies) = stays_itself storages p.life.node
+  move_stays _ _ _ _ _ (answers p position question waiting said life silent at which h) =
       stays_same storages p.life.node life.node (ap (λ (l : LifeState S). l.node) h.leaves ∙ h.asks.happens.2)
-  move_stays _ _ _ _ (holds_back p position question rest first at before) = stays_itself storages p.life.node
-  move_stays _ _ _ _ (tells p connection answered rest first) = stays_itself storages p.life.node
-  move_stays _ _ _ _ (turns_away p claim rest refusal silent full first spelled) = stays_itself storages p.life.node
-  move_stays _ _ _ _ (clears p silent full) = stays_itself storages p.life.node
-  move_stays _ _ _ _ (hands_on p place requests sent silent goes_on first marked packets) = stays_itself storages p.life.node
-  move_stays _ _ _ _ (looks p position at) = stays_itself storages p.life.node
+  move_stays _ _ _ _ _ (holds_back p position question rest first at before) = stays_itself storages p.life.node
+  move_stays _ _ _ _ _ (tells p connection answered rest first) = stays_itself storages p.life.node
+  move_stays _ _ _ _ _ (turns_away p claim rest refusal silent full first spelled) = stays_itself storages p.life.node
+  move_stays _ _ _ _ _ (clears p silent full) = stays_itself storages p.life.node
+  move_stays _ _ _ _ _ (hands_on p place requests sent silent goes_on first marked packets) = stays_itself storages p.life.node
+  move_stays _ _ _ _ _ (looks p position at) = stays_itself storages p.life.node
 
-  pub moves_stay : (p q : ProcessState S) (sent : List Carried) (said : List Talk) → Moves storages now p sent said q
+  pub moves_stay : (part : Part) (p q : ProcessState S) (sent : List Carried) (said : List Talk) → Moves storages now part p sent said q
       → StaysUp p.life.node q.life.node
-  moves_stay _ _ _ _ (none p) = stays_itself storages p.life.node
-  moves_stay _ _ _ _ (next p q r sent more said told before move) =
-      stays_then storages p.life.node q.life.node r.life.node (moves_stay p q sent said before) (move_stays q r more told move)
+  moves_stay part _ _ _ _ (none p) = stays_itself storages p.life.node
+  moves_stay part _ _ _ _ (next p q r sent more said told before move) =
+      stays_then storages p.life.node q.life.node r.life.node (moves_stay part p q sent said before) (move_stays part q r more told move)
 
   -- ---- what is known follows from what has passed
   time_knows : (p : ProcessState S) (life : LifeState S) (knows : TimingState) → KeepsTime storages now p life knows
@@ -287,80 +291,102 @@ module _ {S : Type 0} (storages : Ghosts S) (now : ℕ) where
   line_knows p _ connection text (asks query position is) = (refl, refl, refl)
   line_knows p _ connection text (owes answered own) = (refl, refl, refl)
 
-  move_knows : (p q : ProcessState S) (sent : List Carried) (said : List Talk) → Move storages now p sent said q
+  move_knows : (part : Part) (p q : ProcessState S) (sent : List Carried) (said : List Talk) → Move storages now part p sent said q
       → (q.own ≡ p.own) × (q.nodes ≡ p.nodes) × Follows p.nodes p.timing q.timing sent
-  move_knows _ _ _ _ (takes_packet p bytes life knows h) =
+  move_knows _ _ _ _ _ (takes_packet p bytes life knows h) =
       (refl, refl, packet_known p.nodes bytes p.life life p.timing knows h (marked_or_not bytes))
-  move_knows _ _ _ _ (takes_own p life h) = (refl, refl, refl)
-  move_knows _ _ _ _ (finds_nothing p) = (refl, refl, refl)
-  move_knows _ _ _ _ (hears_nothing p) = (refl, refl, refl)
-  move_knows _ _ _ _ (hears p q connection text room h) = line_knows p q connection text h
-  move_knows _ _ _ _ (forgets p connection) = (refl, refl, refl)
-  move_knows _ _ _ _ (keeps_time p life knows h) = (refl, refl, time_knows p life knows h)
-  move_knows _ _ _ _ (keeps_records p life h) = (refl, refl, refl)
-  move_knows _ _ _ _ (lets_out p sent said claims frames replies) =
+  move_knows _ _ _ _ _ (takes_own p life h) = (refl, refl, refl)
+  move_knows _ _ _ _ _ (finds_nothing p) = (refl, refl, refl)
+  move_knows _ _ _ _ _ (hears_nothing p) = (refl, refl, refl)
+  move_knows _ _ _ _ _ (hears p q connection text room h) = line_knows p q connection text h
+  move_knows _ _ _ _ _ (forgets p connection) = (refl, refl, refl)
+  move_knows _ _ _ _ _ (keeps_records p life h) = (refl, refl, refl)
+  move_knows _ _ _ _ _ (lets_out p sent said claims frames replies) =
       (refl, refl, learns_all_sent p.nodes now p.life.held.frames sent p.timing frames)
-  move_knows _ _ _ _ (answers p position question waiting said life silent at which h) = (refl, refl, refl)
-  move_knows _ _ _ _ (holds_back p position question rest first at before) = (refl, refl, refl)
-  move_knows _ _ _ _ (tells p connection answered rest first) = (refl, refl, refl)
-  move_knows _ _ _ _ (turns_away p claim rest refusal silent full first spelled) = (refl, refl, refl)
-  move_knows _ _ _ _ (clears p silent full) = (refl, refl, refl)
-  move_knows _ _ _ _ (hands_on p place requests sent silent goes_on first marked packets) = (
+  move_knows _ _ _ _ _ (answers p position question waiting said life silent at which h) = (refl, refl, refl)
+  move_knows _ _ _ _ _ (holds_back p position question rest first at before) = (refl, refl, refl)
+  move_knows _ _ _ _ _ (tells p connection answered rest first) = (refl, refl, refl)
+  move_knows _ _ _ _ _ (turns_away p claim rest refusal silent full first spelled) = (refl, refl, refl)
+  move_knows _ _ _ _ _ (clears p silent full) = (refl, refl, refl)
+  move_knows _ _ _ _ _ (hands_on p place requests sent silent goes_on first marked packets) = (
     refl,
     refl,
     sym (learns_packets p.nodes (leader_in p.timing) p.own first.request.packet (known_in p.timing) marked sent
         (all_packets (leader_in p.timing) p.own first.request.packet p.nodes sent packets)),
   )
-  move_knows _ _ _ _ (looks p position at) = (refl, refl, position_known position (is_asked_in p) now p.timing)
+  move_knows _ _ _ _ _ (looks p position at) = (refl, refl, position_known position (is_asked_in p) now p.timing)
 
-  pub moves_know : (p q : ProcessState S) (sent : List Carried) (said : List Talk) → Moves storages now p sent said q
+  pub moves_know : (part : Part) (p q : ProcessState S) (sent : List Carried) (said : List Talk) → Moves storages now part p sent said q
       → (q.own ≡ p.own) × (q.nodes ≡ p.nodes) × Follows p.nodes p.timing q.timing sent
-  moves_know _ _ _ _ (none p) = (refl, refl, refl)
-  moves_know _ _ _ _ (next p q r sent more said told before move) =
-      let one = moves_know p q sent said before in
-      let two = move_knows q r more told move in (
-        two.0 ∙ one.0,
-        two.1 ∙ one.1,
-        subst (λ (n : ℕ). known_in r.timing ≡ fold (learn n) (known_in q.timing) more) one.1 two.2
-            ∙ ap (λ (k : Known). fold (learn p.nodes) k more) one.2 ∙ sym (fold-append (learn p.nodes) (known_in p.timing) sent more),
-      )
+  moves_know part _ _ _ _ (none p) = (refl, refl, refl)
+  moves_know part _ _ _ _ (next p q r sent more said told before move) =
+      let one = moves_know part p q sent said before in
+      let two = move_knows part q r more told move in
+      (two.0 ∙ one.0, two.1 ∙ one.1, follows_then p.nodes q.nodes p.timing q.timing r.timing sent more one.1 one.2 two.2)
 
   -- ---- all of it, of a turn
-  pub turn_is_moves : (p r : ProcessState S) (sent : List Carried) (said : List Talk) → IsTurn storages now p sent said r
-      → Moves storages now p sent said r
-  turn_is_moves p r sent said h =
-      subst (λ (xs : List Carried). Moves storages now p xs said r) (sym h.all_sent)
-      (subst (λ (xs : List Talk). Moves storages now p (h.sent_before ++ h.sent_after) xs r) (sym h.all_said)
-      (moves_then storages now p (record h.q { life = h.life; timing = h.knows }) r h.sent_before h.sent_after h.said_before h.said_after
-      (moves_at h) h.after))
-    where
-      moves_at : (h : IsTurn storages now p sent said r)
-          → Moves storages now p h.sent_before h.said_before (record h.q { life = h.life; timing = h.knows })
-      moves_at h =
-          subst (λ (xs : List Carried). Moves storages now p xs h.said_before (record h.q { life = h.life; timing = h.knows }))
-          (append-nil h.sent_before)
-          (subst (λ (xs : List Talk). Moves storages now p (h.sent_before ++ []) xs (record h.q { life = h.life; timing = h.knows }))
-          (append-nil h.said_before)
-          (next p h.q (record h.q { life = h.life; timing = h.knows }) h.sent_before [] h.said_before [] h.before
-          (keeps_time h.q h.life h.knows h.keeps_time)))
+  abbrev pub Kept : ProcessState S → List Carried → List Talk → ProcessState S → Type 0
+  Kept p sent said r =
+      KeepsEach said p.waiting r.waiting × StaysUp p.life.node r.life.node × (r.own ≡ p.own) × (r.nodes ≡ p.nodes)
+      × Follows p.nodes p.timing r.timing sent
+
+  kept_then : (p q r : ProcessState S) (sent more : List Carried) (said told : List Talk) → Kept p sent said q → Kept q more told r
+      → Kept p (sent ++ more) (said ++ told) r
+  kept_then p q r sent more said told h k = (
+    keeps_then said told p.waiting q.waiting r.waiting h.0 k.0,
+    stays_then storages p.life.node q.life.node r.life.node h.1 k.1,
+    k.2 ∙ h.2,
+    k.3 ∙ h.3,
+    follows_then p.nodes q.nodes p.timing q.timing r.timing sent more h.3 h.4 k.4,
+  )
+
+  kept_moves : (part : Part) (p q : ProcessState S) (sent : List Carried) (said : List Talk) → Moves storages now part p sent said q
+      → Kept p sent said q
+  kept_moves part p q sent said moves =
+      let known = moves_know part p q sent said moves in
+      (moves_keep_each part p q sent said moves, moves_stay part p q sent said moves, known.0, known.1, known.2)
+
+  kept_time : (p : ProcessState S) (life : LifeState S) (knows : TimingState) → KeepsTime storages now p life knows
+      → Kept p [] [] (record p { life = life; timing = knows })
+  kept_time p life knows h =
+      (keeps_none p.waiting p.waiting refl, time_stays p life knows h, refl, refl, time_knows p life knows h)
+
+  pub kept_taking : (p q : ProcessState S) (came : List Carried) (heard : List Talk) (more : Bool) → TakesAll storages now p came heard q more
+      → Kept p came heard q
+  kept_taking p q came heard more h =
+      let timed : ProcessState S = record h.after_lines { life = h.life; timing = h.knows } in
+      subst (λ (xs : List Carried). Kept p xs heard q) (append-nil came)
+      (subst (λ (xs : List Talk). Kept p (came ++ []) xs q) (append-nil heard)
+      (kept_then p h.after_packets q came [] [] (heard ++ []) (kept_moves Taking p h.after_packets came [] h.packets)
+      (kept_then h.after_packets h.after_lines q [] [] heard [] (kept_moves Taking h.after_packets h.after_lines [] heard h.lines)
+      (kept_then h.after_lines timed q [] [] [] [] (kept_time h.after_lines h.life h.knows h.keeps_time)
+      (kept_moves Taking timed q [] [] h.goes_on)))))
+
+  kept_turn : (p r : ProcessState S) (sent : List Carried) (said : List Talk) (more : Bool) → IsTurn storages now p sent said r more
+      → Kept p sent said r
+  kept_turn p r sent said more h =
+      subst (λ (xs : List Carried). Kept p xs said r) (sym h.all_sent)
+      (subst (λ (xs : List Talk). Kept p (h.came ++ h.out) xs r) (sym h.all_said)
+      (kept_then p h.between r h.came h.out h.heard h.told (kept_taking p h.between h.came h.heard h.more_came h.takes)
+      (kept_moves Telling h.between r h.out h.told h.tells.0)))
 
   -- over a network and a desk
   module _ {N D : Type 0} (carried : N → List Carried) (Carries : N → Type 0) (talk : D → List Talk) (Talks : D → Type 0) where
-    pub turn_keeps_each : (p q : ProcessState S) (n m : N) (d e : D)
-        → PassesBoth carried Carries talk Talks (λ sent said. IsTurn storages now p sent said q) n d m e
+    abbrev pub PassesTurn : ProcessState S → N → D → ProcessState S → N → D → Bool → Type 0
+    PassesTurn p n d q m e more =
+        PassesBoth carried Carries talk Talks (λ sent said. IsTurn storages now p sent said q more) n d m e
+
+    pub turn_keeps_each : (p q : ProcessState S) (n m : N) (d e : D) (more : Bool) → PassesTurn p n d q m e more
         → KeepsEachOver talk Talks p.waiting d q.waiting e
-    turn_keeps_each p q n m d e h =
-        each_said talk Talks h.said p.waiting q.waiting d e h.talks
-        (moves_keep_each p q h.sent h.said (turn_is_moves p q h.sent h.said h.are))
+    turn_keeps_each p q n m d e more h =
+        each_said talk Talks h.said p.waiting q.waiting d e h.talks (kept_turn p q h.sent h.said more h.are).0
 
-    pub turn_stays : (p q : ProcessState S) (n m : N) (d e : D)
-        → PassesBoth carried Carries talk Talks (λ sent said. IsTurn storages now p sent said q) n d m e
+    pub turn_stays : (p q : ProcessState S) (n m : N) (d e : D) (more : Bool) → PassesTurn p n d q m e more
         → StaysUp p.life.node q.life.node
-    turn_stays p q n m d e h = moves_stay p q h.sent h.said (turn_is_moves p q h.sent h.said h.are)
+    turn_stays p q n m d e more h = (kept_turn p q h.sent h.said more h.are).1
 
-    pub turn_learns : (a b : Server S) (n m : N) (d e : D)
-        → PassesBoth carried Carries talk Talks (λ sent said. IsTurn storages now (process_of a) sent said (process_of b)) n d m e
+    pub turn_learns : (a b : Server S) (n m : N) (d e : D) (more : Bool) → PassesTurn (process_of a) n d (process_of b) m e more
         → Learns carried Carries a n b m
-    turn_learns a b n m d e h =
-        let known = moves_know (process_of a) (process_of b) h.sent h.said (turn_is_moves (process_of a) (process_of b) h.sent h.said h.are) in
-        record { own = known.0; nodes = known.1; follows = record { passed = h.sent; are = known.2; passes = h.carries } }
+    turn_learns a b n m d e more h =
+        let known = kept_turn (process_of a) (process_of b) h.sent h.said more h.are in
+        record { own = known.2; nodes = known.3; follows = record { passed = h.sent; are = known.4; passes = h.carries } }

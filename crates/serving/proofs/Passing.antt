@@ -1,10 +1,10 @@
 -- What passes over a network and a desk, one part of a turn after the other.
-use Rattle.std.proofs.Common.{◌≡◌, ℕ, All, Contains, List, [], ◌∷◌, ◌++◌, sym, ap, ◌∙◌, append-nil, append_assoc}
-use Rattle.std.proofs.lemmas.List.Elements.{All-append, All-cons, All-nil, All-weaker, Contains-append_left, Contains-append_right, Contains-push}
+use Rattle.std.proofs.Common.{◌≡◌, ℕ, All, List, [], ◌∷◌, ◌++◌, sym, ap, ◌∙◌, append-nil, append_assoc}
+use Rattle.std.proofs.lemmas.List.Elements.{All-append, All-cons, All-nil, All-weaker}
 use Rattle.stable.specs.declared.stable.Stable.{Ghosts}
-use Rattle.serving.specs.Serving.{Passes, PassesOnly, ServerState, Serves, ServesClients, ServesNodes, ServesOver}
-use Rattle.serving.specs.Tapes.{Carried, Arrived, NothingCame, NothingHeard, Talk, HasPassed}
-use Rattle.serving.proofs.Coming.{serves_nothing_came, serves_nothing_heard}
+use Rattle.serving.specs.Serving.{PassesOnly, ServerState, Serves, ServesClients, ServesNodes, ServesOver}
+use Rattle.serving.specs.Tapes.{Carried, Arrived, NothingCame, NothingHeard, PollFailed, ReadingFailed, Talk, HasPassed}
+use Rattle.serving.proofs.Coming.{serves_failed_poll, serves_failed_reading, serves_nothing_came, serves_nothing_heard}
 use Rattle.serving.proofs.Leading.{serves_none, serves_then}
 
 -- ---- tapes
@@ -71,32 +71,6 @@ module _ {T A : Type 0} (tape : T → List A) (Tells : T → Type 0) where
   pub only_weaker : (P Q : A → Type 0) → ((x : A) → P x → Q x) → (a b : T) → PassesOnly tape Tells P a b → PassesOnly tape Tells Q a b
   only_weaker P Q f a b h = record { passed = h.passed; each = All-weaker P Q f h.passed h.each; passes = h.passes }
 
--- this alone passed, as a call's clauses have it
-pub passes_one : {T A : Type 0} (tape : T → List A) (Tells : T → Type 0) (x : A) (a b : T) (passed : List A) → passed ≡ x ∷ []
-    → (Tells b → tape b ≡ tape a ++ passed) → (Tells b → Tells a) → Passes tape Tells (λ all. Contains all x) a b
-passes_one tape Tells x a b passed one is told =
-    record { passed = x ∷ []; are = Contains-push [] x; passes = passes_as tape Tells a b passed (x ∷ []) is told one }
-
--- what passed stands there once more has passed
-pub passes_contains : {T A : Type 0} (tape : T → List A) (Tells : T → Type 0) (x : A) (a b c : T) (more : List A)
-    → Passes tape Tells (λ passed. Contains passed x) a b → HasPassed tape Tells b more c
-    → Passes tape Tells (λ passed. Contains passed x) a c
-passes_contains tape Tells x a b c more h k = record {
-  passed = h.passed ++ more;
-  are = Contains-append_left h.passed more x h.are;
-  passes = passes_then tape Tells a b c h.passed more h.passes k;
-}
-
--- and where it passed before
-pub contains_passes : {T A : Type 0} (tape : T → List A) (Tells : T → Type 0) (x : A) (a b c : T) (before : List A)
-    → HasPassed tape Tells a before b → Passes tape Tells (λ passed. Contains passed x) b c
-    → Passes tape Tells (λ passed. Contains passed x) a c
-contains_passes tape Tells x a b c before h k = record {
-  passed = before ++ k.passed;
-  are = Contains-append_right before k.passed x k.are;
-  passes = passes_then tape Tells a b c before k.passed h k.passes;
-}
-
 -- ---- over the network alone
 module _ {S N : Type 0} (storages : Ghosts S) (carried : N → List Carried) (Carries : N → Type 0) where
   pub nodes_none : (a : ServerState S) (n : N) → ServesNodes storages carried Carries a n a n
@@ -129,10 +103,13 @@ module _ {S N : Type 0} (storages : Ghosts S) (carried : N → List Carried) (Ca
     carries = passes_as carried Carries n m came (NothingCame ∷ []) tape told is;
   }
 
-  pub nodes_polled_none : (a : ServerState S) (n m : N) (came : List Carried) → came ≡ []
+  pub nodes_poll_failed : (a : ServerState S) (n m : N) (came : List Carried) → came ≡ PollFailed ∷ []
       → (Carries m → carried m ≡ carried n ++ came) → (Carries m → Carries n) → ServesNodes storages carried Carries a n a m
-  nodes_polled_none a n m came is tape told =
-      record { sent = []; serves = serves_none storages a; carries = passes_as carried Carries n m came [] tape told is }
+  nodes_poll_failed a n m came is tape told = record {
+    sent = PollFailed ∷ [];
+    serves = serves_failed_poll storages a;
+    carries = passes_as carried Carries n m came (PollFailed ∷ []) tape told is;
+  }
 
 -- ---- over the desk alone
 module _ {S D : Type 0} (storages : Ghosts S) (talk : D → List Talk) (Talks : D → Type 0) where
@@ -157,18 +134,21 @@ module _ {S D : Type 0} (storages : Ghosts S) (talk : D → List Talk) (Talks : 
   clients_read a b d e came what is tape told h =
       record { said = what ∷ []; serves = h; talks = passes_as talk Talks d e came (what ∷ []) tape told is }
 
-  pub clients_read_nothing : (a : ServerState S) (d e : D) (came : List Talk) → came ≡ NothingHeard ∷ []
+  pub clients_read_nothing : (a : ServerState S) (lines : List ℕ) (d e : D) (came : List Talk) → came ≡ NothingHeard lines ∷ []
       → (Talks e → talk e ≡ talk d ++ came) → (Talks e → Talks d) → ServesClients storages talk Talks a d a e
-  clients_read_nothing a d e came is tape told = record {
-    said = NothingHeard ∷ [];
-    serves = serves_nothing_heard storages a;
-    talks = passes_as talk Talks d e came (NothingHeard ∷ []) tape told is;
+  clients_read_nothing a lines d e came is tape told = record {
+    said = NothingHeard lines ∷ [];
+    serves = serves_nothing_heard storages a lines;
+    talks = passes_as talk Talks d e came (NothingHeard lines ∷ []) tape told is;
   }
 
-  pub clients_read_none : (a : ServerState S) (d e : D) (came : List Talk) → came ≡ [] → (Talks e → talk e ≡ talk d ++ came)
-      → (Talks e → Talks d) → ServesClients storages talk Talks a d a e
-  clients_read_none a d e came is tape told =
-      record { said = []; serves = serves_none storages a; talks = passes_as talk Talks d e came [] tape told is }
+  pub clients_reading_failed : (a : ServerState S) (d e : D) (came : List Talk) → came ≡ ReadingFailed ∷ []
+      → (Talks e → talk e ≡ talk d ++ came) → (Talks e → Talks d) → ServesClients storages talk Talks a d a e
+  clients_reading_failed a d e came is tape told = record {
+    said = ReadingFailed ∷ [];
+    serves = serves_failed_reading storages a;
+    talks = passes_as talk Talks d e came (ReadingFailed ∷ []) tape told is;
+  }
 
 -- ---- over both
 module _ {S N D : Type 0} (storages : Ghosts S) (carried : N → List Carried) (Carries : N → Type 0) (talk : D → List Talk)

@@ -21,6 +21,7 @@ use Rattle.life.specs.declared.fault.LifeFault.{LifeFault}
 use Rattle.clients.specs.AnswerLines.{answer_line}
 use Rattle.clients.specs.declared.answer.ClientAnswer.TheVariants as answer
 use Rattle.serving.specs.declared.claims.Claim.{Claim}
+use Rattle.serving.specs.declared.waiting.Due.{Due}
 use Rattle.serving.specs.declared.waiting.Due.TheVariants as due
 use Rattle.serving.specs.declared.waiting.Question.{Question}
 use Rattle.serving.specs.Knowing.{IsPosition, Refuses, WasSo}
@@ -171,6 +172,29 @@ serves_forgetting {S} storages old new claim rest life next waiting requests =
       claims = All-tail (HasAsked past.talk) claim rest all;
       questions = is.questions;
       due = is.due;
+      requests = is.requests;
+    }))
+
+-- what was due is lost, where memory is wanting
+pub serves_losing : {S : Type 0} (storages : Ghosts S) (old new : ServerState S) (what : Due) (rest : List Due)
+    → new.life ≡ old.life → old.waiting.due ≡ what ∷ rest → new.waiting ≡ record old.waiting { due = rest }
+    → new.requests ≡ old.requests → Serves storages old [] [] new
+serves_losing {S} storages old new what rest life next waiting requests =
+    serves_still storages old new
+    (λ first past is.
+    let P = MayBeDue (WasSo storages first past.history) past.talk in
+    let all : All P (what ∷ rest) = subst (λ (ds : List Due). All P ds) next is.due in
+    let now : ServerState S = record old { waiting = record old.waiting { due = rest } } in
+    let same : now ≡ new = λ i. record { life = sym life i; waiting = sym waiting i; requests = sym requests i } in
+    subst (λ (s : ServerState S). IsServing storages first past s) same
+    (record {
+      life = is.life;
+      takes = is.takes;
+      sends = is.sends;
+      tells = is.tells;
+      claims = is.claims;
+      questions = is.questions;
+      due = All-tail P what rest all;
       requests = is.requests;
     }))
 

@@ -1,68 +1,79 @@
 -- How much a turn takes: all that there is, or as much as one may.
-use Rattle.std.proofs.Common.{◌≡◌, ◌≤◌, ℕ, ◌+◌, Bool, true, List, [], ◌∷◌, ◌++◌, Contains, count_by, cond, inl, inr, refl, ap, ◌∙◌, arith}
-use Rattle.std.proofs.lemmas.List.Elements.{Contains-append_left}
-use Rattle.serving.specs.Resting.{HasListened, HasTaken}
+use Rattle.std.proofs.Common.{◌≡◌, ◌<◌, ◌≤◌, ℕ, ◌+◌, Bool, true, false, List, [], ◌∷◌, ◌++◌, length, Option, Some, refl, sym, ap, subst, ◌∙◌, arith}
+use Rattle.std.proofs.lemmas.List.{length_push}
+use Rattle.std.proofs.lemmas.List.Elements.{All-append, All-cons, All-nil}
+use Rattle.serving.specs.Resting.{AllCame, HasRead, IsReading}
+use Rattle.serving.specs.Resting.HasRead.{as_many_as_may_be, up_to_the_last}
 use Rattle.serving.specs.Serving.{Passes}
-use Rattle.serving.specs.Tapes.{Carried, HasPassed, NothingCame, NothingHeard, Talk, heard, is_arrival, is_heard}
+use Rattle.serving.specs.Tapes.{IsHeard, heard, read}
 use Rattle.serving.specs.declared.desk.Came.{Came}
 use Rattle.serving.specs.declared.desk.Came.TheVariants as came
 use Rattle.serving.specs.declared.server.TheConstants.{MOST_IN_A_TURN}
-use Rattle.serving.proofs.Counts.{count_append, count_one}
-use Rattle.serving.proofs.Passing.{passes_as, passes_none, passes_then}
+use Rattle.serving.proofs.Passing.{passes_none, passes_then}
 
-pub what_came_is_heard : (what : Came) → is_heard (heard what) ≡ true
-what_came_is_heard (came.Line connection text) = refl
-what_came_is_heard (came.Gone connection) = refl
+pub what_came_is_read : (what : Came) → read (heard what) ≡ Some true
+what_came_is_read (came.Line connection text) = refl
+what_came_is_read (came.Gone connection) = refl
 
-module _ {T A : Type 0} (tape : T → List A) (Tells : T → Type 0) where
-  pub passes_so : (P Q : List A → Type 0) → ((xs : List A) → P xs → Q xs) → (a b : T) → Passes tape Tells P a b → Passes tape Tells Q a b
-  passes_so P Q f a b h = record { passed = h.passed; are = f h.passed h.are; passes = h.passes }
+pub what_came_was_heard : (what : Came) → IsHeard (heard what)
+what_came_was_heard (came.Line connection text) = tt
+what_came_was_heard (came.Gone connection) = tt
 
-  pub passes_more : (P : List A → Type 0) → ((xs ys : List A) → P xs → P (xs ++ ys)) → (a b c : T) (more : List A)
-      → Passes tape Tells P a b → HasPassed tape Tells b more c → Passes tape Tells P a c
-  passes_more P f a b c more h k = record {
-    passed = h.passed ++ more;
-    are = f h.passed more h.are;
-    passes = passes_then tape Tells a b c h.passed more h.passes k;
+module _ {T A : Type 0} (tape : T → List A) (Tells : T → Type 0) (found : A → Option Bool) where
+  -- so many came, and led somewhere
+  abbrev pub SoMany : (List A → Type 0) → ℕ → List A → Type 0
+  SoMany Leads count passed = Leads passed × AllCame found passed × (length passed ≡ count)
+
+  pub none_came : (Leads : List A → Type 0) (t : T) → Leads [] → Passes tape Tells (SoMany Leads 0) t t
+  none_came Leads t leads = record {
+    passed = [];
+    are = (leads, All-nil (λ x. found x ≡ Some true), refl);
+    passes = passes_none tape Tells t;
   }
 
-  -- ---- so many of what passed are of a kind
-  module _ (p : A → Bool) where
-    pub counts_none : (t : T) → Passes tape Tells (λ xs. count_by p xs ≡ 0) t t
-    counts_none t = record { passed = []; are = refl; passes = passes_none tape Tells t }
+  more_came : (Leads More Both : List A → Type 0) → ((xs ys : List A) → Leads xs → More ys → Both (xs ++ ys)) → (count : ℕ)
+      (xs ys : List A) (is : Bool) → is ≡ true → SoMany Leads count xs → More ys × IsReading found ys is → SoMany Both (count + 1) (xs ++ ys)
+  more_came Leads More Both join count xs ys is so h k =
+      let one = k.1 in
+      let last : xs ++ ys ≡ xs ++ one.0 ∷ [] = ap (λ (zs : List A). xs ++ zs) one.1 in
+      let each : AllCame found (xs ++ one.0 ∷ []) =
+      All-append (λ x. found x ≡ Some true) xs (one.0 ∷ []) h.1
+      (All-cons (λ x. found x ≡ Some true) one.0 [] (one.2 ∙ ap (λ (b : Bool). Some b) so) (All-nil (λ x. found x ≡ Some true))) in (
+        join xs ys h.0 k.0,
+        subst (λ (zs : List A). AllCame found zs) (sym last) each,
+        ap (λ (zs : List A). length zs) last ∙ length_push xs one.0 ∙ ap (λ (n : ℕ). n + 1) h.2,
+      )
 
-    pub counts_one : (a b : T) (passed : List A) (x : A) → passed ≡ x ∷ [] → p x ≡ true → (Tells b → tape b ≡ tape a ++ passed)
-        → (Tells b → Tells a) → Passes tape Tells (λ xs. count_by p xs ≡ 1) a b
-    counts_one a b passed x is so tape_ told = record {
-      passed = x ∷ [];
-      are = count_one p x ∙ ap (λ (c : Bool). cond c 1 0) so;
-      passes = passes_as tape Tells a b passed (x ∷ []) tape_ told is;
-    }
+  -- one more
+  pub came_then : (Leads More Both : List A → Type 0) → ((xs ys : List A) → Leads xs → More ys → Both (xs ++ ys)) → (count : ℕ)
+      (a b c : T) (is : Bool) → is ≡ true → Passes tape Tells (SoMany Leads count) a b
+      → Passes tape Tells (λ ys. More ys × IsReading found ys is) b c → Passes tape Tells (SoMany Both (count + 1)) a c
+  came_then Leads More Both join count a b c is so h k = record {
+    passed = h.passed ++ k.passed;
+    are = more_came Leads More Both join count h.passed k.passed is so h.are k.are;
+    passes = passes_then tape Tells a b c h.passed k.passed h.passes k.passes;
+  }
 
-    pub counts_then : (n : ℕ) (a b c : T) → Passes tape Tells (λ xs. count_by p xs ≡ n) a b
-        → Passes tape Tells (λ xs. count_by p xs ≡ 1) b c → Passes tape Tells (λ xs. count_by p xs ≡ n + 1) a c
-    counts_then n a b c h k = record {
-      passed = h.passed ++ k.passed;
-      are = omega (arith, count_append p h.passed k.passed, h.are, k.are);
-      passes = passes_then tape Tells a b c h.passed k.passed h.passes k.passes;
-    }
+  -- no more
+  pub read_to_the_last : (Leads More Both : List A → Type 0) → ((xs ys : List A) → Leads xs → More ys → Both (xs ++ ys)) → (count : ℕ)
+      (a b c : T) (is : Bool) → is ≡ false → count < MOST_IN_A_TURN → Passes tape Tells (SoMany Leads count) a b
+      → Passes tape Tells (λ ys. More ys × IsReading found ys is) b c → Passes tape Tells (λ xs. Both xs × HasRead found xs false) a c
+  read_to_the_last Leads More Both join count a b c is so few h k =
+      let one = k.are.1 in
+      let last : h.passed ++ one.0 ∷ [] ≡ h.passed ++ k.passed = ap (λ (zs : List A). h.passed ++ zs) (sym one.1) in
+      let has : HasRead found (h.passed ++ one.0 ∷ []) false =
+      up_to_the_last h.passed one.0 h.are.1 (omega (arith, few, h.are.2)) (one.2 ∙ ap (λ (b : Bool). Some b) so) in
+      record {
+        passed = h.passed ++ k.passed;
+        are = (join h.passed k.passed h.are.0 k.are.0, subst (λ (zs : List A). HasRead found zs false) last has);
+        passes = passes_then tape Tells a b c h.passed k.passed h.passes k.passes;
+      }
 
-pub taken_more : (xs ys : List Carried) → HasTaken xs → HasTaken (xs ++ ys)
-taken_more xs ys (inl quiet) = inl (Contains-append_left xs ys NothingCame quiet)
-taken_more xs ys (inr most) = inr (omega (arith, most, count_append is_arrival xs ys))
-
-pub listened_more : (xs ys : List Talk) → HasListened xs → HasListened (xs ++ ys)
-listened_more xs ys (inl quiet) = inl (Contains-append_left xs ys NothingHeard quiet)
-listened_more xs ys (inr most) = inr (omega (arith, most, count_append is_heard xs ys))
-
-pub most_taken : (n : ℕ) → MOST_IN_A_TURN ≤ n → (xs : List Carried) → count_by is_arrival xs ≡ n → HasTaken xs
-most_taken n most xs is = inr (omega (arith, most, is))
-
-pub most_listened : (n : ℕ) → MOST_IN_A_TURN ≤ n → (xs : List Talk) → count_by is_heard xs ≡ n → HasListened xs
-most_listened n most xs is = inr (omega (arith, most, is))
-
-pub quiet_taken : (xs : List Carried) → Contains xs NothingCame → HasTaken xs
-quiet_taken xs quiet = inl quiet
-
-pub quiet_listened : (xs : List Talk) → Contains xs NothingHeard → HasListened xs
-quiet_listened xs quiet = inl quiet
+  -- as many as may be
+  pub read_the_most : (Leads : List A → Type 0) (count : ℕ) (a b : T) → count ≤ MOST_IN_A_TURN → MOST_IN_A_TURN ≤ count
+      → Passes tape Tells (SoMany Leads count) a b → Passes tape Tells (λ xs. Leads xs × HasRead found xs true) a b
+  read_the_most Leads count a b most least h = record {
+    passed = h.passed;
+    are = (h.are.0, as_many_as_may_be h.passed h.are.1 (omega (arith, most, least, h.are.2)));
+    passes = h.passes;
+  }

@@ -10,7 +10,7 @@ use Rattle.wire.specs.declared.frames.message.Message.TheVariants as message
 use Rattle.serving.specs.declared.server.Server.{Server}
 use Rattle.serving.specs.Requesting.{is_marked}
 use Rattle.serving.specs.Serving.{Passes}
-use Rattle.serving.specs.Tapes.{Carried, Sent, Arrived, NothingCame}
+use Rattle.serving.specs.Tapes.{Carried, Sent, Arrived, NothingCame, PollFailed}
 use Rattle.serving.specs.Timings.{TimingState, above, above_votes}
 
 pub record Known : Type 0 where
@@ -53,6 +53,7 @@ abbrev pub learn : ℕ → Known → Carried → Known
 learn nodes k (Arrived bytes) = if is_marked bytes then k else by_frame with_message (frame_in nodes bytes) k
 learn nodes k (Sent to bytes) = if is_marked bytes then k else by_frame with_own (frame_in 7 bytes) k
 learn nodes k NothingCame = k
+learn nodes k PollFailed = k
 
 -- what is known now is what was, and what passed has told
 abbrev pub Follows : ℕ → TimingState → TimingState → List Carried → Type 0

@@ -1,11 +1,13 @@
 -- What a process does in a turn, move by move.
-use Rattle.std.specs.Prelude.{◌≡◌, ◌≢◌, ◌<◌, ◌≤◌, ◌⊎◌, ℕ, All, List, [], ◌∷◌, ◌++◌, length, min, Option, Result, Ok, Err, not, true}
+use Rattle.std.specs.Prelude.{◌≡◌, ◌≢◌, ◌<◌, ◌≤◌, ◌⊎◌, ◌||◌, ◌+◌, ℕ, Bool, All, List, [], ◌∷◌, ◌++◌, length, min, Option, Some, Result, Ok, Err, not, slice_get, take, true}
 use Rattle.std.specs.List.{filter}
 use Rattle.std.specs.Global.{Vec}
 use Rattle.sessions.specs.declared.submission.Submission.{Submission}
 use Rattle.stable.specs.declared.stable.Stable.{Ghosts}
 use Rattle.wire.specs.FrameReading.{frame_in}
+use Rattle.wire.specs.declared.frames.envelope.Envelope.{Envelope}
 use Rattle.node_model.specs.Faults.{node_code}
+use Rattle.node_model.specs.Nodes.{NodeState}
 use Rattle.node_model.specs.Outputs.{Response}
 use Rattle.node_model.specs.declared.fault.NodeFault.{NodeFault}
 use Rattle.node_model.specs.declared.fault.NodeFault.TheVariants as node_fault
@@ -26,18 +28,18 @@ use Rattle.clients.specs.declared.answer.Status.{Status}
 use Rattle.clients.specs.declared.line.ClientLine.TheVariants as line
 use Rattle.serving.specs.Claiming.{is_for, is_of}
 use Rattle.serving.specs.Knowing.{IsLastNumber, IsPosition}
-use Rattle.serving.specs.Outgoing.{AreFramesOf, ArePacketsOf}
+use Rattle.serving.specs.Outgoing.{AreFramesOf, ArePacketsOf, IsArrival}
 use Rattle.serving.specs.Owing.{HasRoom, reply_told}
 use Rattle.serving.specs.Packets.{IsMessageTaken, IsTakenOver}
 use Rattle.serving.specs.Processes.{ProcessState, is_asked_in}
 use Rattle.serving.specs.Refusals.{IsRefused}
 use Rattle.serving.specs.Requesting.{HandsOnFirst, RequestState, is_marked, unreplied, with_request}
-use Rattle.serving.specs.Resting.{IsCheckpointed, IsFull}
-use Rattle.serving.specs.Staying.{WasGiven}
-use Rattle.serving.specs.Tapes.{Arrived, Carried, Heard, NothingCame, NothingHeard, Talk, Told, Went}
+use Rattle.serving.specs.Resting.{HasRead, IsCheckpointed, IsFull}
+use Rattle.serving.specs.Staying.{IsNear, WasGiven}
+use Rattle.serving.specs.Tapes.{Arrived, Carried, Heard, IsHeard, NothingCame, NothingHeard, Talk, Told, Went, polled, read}
 use Rattle.serving.specs.Timings.{IsCampaignDue, IsTickDue, TimingState, all_own_seen, campaigned, leader_in, position_seen}
 use Rattle.serving.specs.Turns.{first_position, handed_on}
-use Rattle.serving.specs.Waitings.{IsFirstRipe, IsHeldBack, WaitingState, is_asked_by, is_told_to}
+use Rattle.serving.specs.Waitings.{IsFirstRipe, IsHeldBack, WaitingState, has_any, is_asked_by, is_told_to, lines_of}
 use Rattle.serving.specs.declared.claims.Claim.{Claim}
 use Rattle.serving.specs.declared.waiting.Due.{Due}
 use Rattle.serving.specs.declared.waiting.Due.TheVariants as due
@@ -174,29 +176,40 @@ pub record IsAnswered {S : Type 0} (storages : Ghosts S) (old : LifeState S) (qu
   pub says : said ≡ Told question.connection (text_line told.0 told.1) ∷ []
   pub leaves : new ≡ record asked { held = nothing }
 
+-- some of what is let out went out: frames; or all frames, and of the replies some, the last one maybe not to all who wait for it
+pub data LetsOutSome (frames : List Envelope) (replies : List Replied) (claims : List Claim) : List Carried → List Talk → Type 0 where
+  some_frames : (count : ℕ) (sent : List Carried) → AreFramesOf (take count frames) sent → LetsOutSome frames replies claims sent []
+  some_replies : (sent : List Carried) (count some : ℕ) (before : List Talk) (left : List Claim) (reply : Replied) → AreFramesOf frames sent
+      → AreRepliesTold claims (take count replies) before left → slice_get replies count ≡ Some reply
+      → LetsOutSome frames replies claims sent (before ++ reply_told reply (take some left))
+
 -- ---- one move: what it sends, hears and tells
+-- a turn takes what comes, and then tells what came of it
+pub data Part : Type 0 where
+  Taking : Part
+  Telling : Part
+
 module _ {S : Type 0} (storages : Ghosts S) (now : ℕ) where
-  pub data Move : ProcessState S → List Carried → List Talk → ProcessState S → Type 0 where
+  pub data Move : Part → ProcessState S → List Carried → List Talk → ProcessState S → Type 0 where
     takes_packet : (p : ProcessState S) (bytes : List ℕ) (life : LifeState S) (knows : TimingState)
         → IsPacketTaken storages p.nodes now bytes p.life p.timing life knows
-        → Move p (Arrived bytes ∷ []) [] (record p { life = life; timing = knows })
-    takes_own : (p : ProcessState S) (life : LifeState S) → TakesOwn storages p.life life → Move p [] [] (record p { life = life })
-    -- nothing has come; no client has done anything that may be read
-    finds_nothing : (p : ProcessState S) → Move p (NothingCame ∷ []) [] p
-    hears_nothing : (p : ProcessState S) → Move p [] (NothingHeard ∷ []) p
+        → Move Taking p (Arrived bytes ∷ []) [] (record p { life = life; timing = knows })
+    takes_own : (p : ProcessState S) (life : LifeState S) → TakesOwn storages p.life life
+        → Move Taking p [] [] (record p { life = life })
+    -- nothing has come; no client has done anything that may be read, where so many lines wait
+    finds_nothing : (p : ProcessState S) → Move Taking p (NothingCame ∷ []) [] p
+    hears_nothing : (p : ProcessState S) → Move Taking p [] (NothingHeard (lines_of p.waiting) ∷ []) p
     -- fewer lines of the connection wait than may
     hears : (p q : ProcessState S) (connection : ℕ) (text : List ℕ) → HasRoom p.waiting (Heard connection text)
-        → IsLineTaken storages p connection text q → Move p [] (Heard connection text ∷ []) q
+        → IsLineTaken storages p connection text q → Move Taking p [] (Heard connection text ∷ []) q
     forgets : (p : ProcessState S) (connection : ℕ)
-        → Move p [] (Went connection ∷ []) (record p { waiting = forgetting connection p.waiting })
-    keeps_time : (p : ProcessState S) (life : LifeState S) (knows : TimingState) → KeepsTime storages now p life knows
-        → Move p [] [] (record p { life = life; timing = knows })
+        → Move Taking p [] (Went connection ∷ []) (record p { waiting = forgetting connection p.waiting })
     keeps_records : (p : ProcessState S) (life : LifeState S) → KeepsRecords storages p.life life
-        → Move p [] [] (record p { life = life })
-    -- all that it holds
+        → Move Taking p [] [] (record p { life = life })
+    -- all that it holds; what its node learnt is told to nobody
     lets_out : (p : ProcessState S) (sent : List Carried) (said : List Talk) (claims : List Claim)
         → AreFramesOf p.life.held.frames sent → AreRepliesTold p.waiting.claims p.life.held.replies said claims
-        → Move p sent said (record p {
+        → Move Telling p sent said (record p {
           life = record p.life { held = nothing };
           waiting = record p.waiting { claims = claims };
           requests = unreplied p.life.held.replies p.requests;
@@ -204,46 +217,127 @@ module _ {S : Type 0} (storages : Ghosts S) (now : ℕ) where
         })
     answers : (p : ProcessState S) (position : ℕ) (question : Question) (waiting : WaitingState) (said : List Talk) (life : LifeState S)
         → p.life.held ≡ nothing → IsPosition p.life.node position → IsNextAnswered position p.waiting waiting question
-        → IsAnswered storages p.life question said life → Move p [] said (record p { life = life; waiting = waiting })
+        → IsAnswered storages p.life question said life → Move Telling p [] said (record p { life = life; waiting = waiting })
     holds_back : (p : ProcessState S) (position : ℕ) (question : Question) (rest : List Due)
         → p.waiting.due ≡ due.Answer question ∷ rest → IsPosition p.life.node position → position < question.from
-        → Move p [] [] (record p {
+        → Move Telling p [] [] (record p {
           waiting = record p.waiting { questions = p.waiting.questions ++ question ∷ []; due = rest };
         })
     tells : (p : ProcessState S) (connection : ℕ) (line : Vec ℕ) (rest : List Due) → p.waiting.due ≡ due.Line connection line ∷ rest
-        → Move p [] (Told connection line.items ∷ []) (record p { waiting = record p.waiting { due = rest } })
+        → Move Telling p [] (Told connection line.items ∷ []) (record p { waiting = record p.waiting { due = rest } })
     -- every reply was told and the log is full: the request is executed never, and handed on to nobody
     turns_away : (p : ProcessState S) (claim : Claim) (rest : List Claim) (refusal : Vec ℕ) → p.life.held ≡ nothing
         → IsFull p.life.node → p.waiting.claims ≡ claim ∷ rest
         → refusal.items ≡ answer_line (answer.Refused claim.client claim.number (node_code node_fault.LogFull))
-        → Move p [] [] (record p { waiting = owing claim.connection refusal (record p.waiting { claims = rest }) })
-    clears : (p : ProcessState S) → p.life.held ≡ nothing → IsFull p.life.node → Move p [] [] (record p { requests = [] })
+        → Move Telling p [] [] (record p { waiting = owing claim.connection refusal (record p.waiting { claims = rest }) })
+    clears : (p : ProcessState S) → p.life.held ≡ nothing → IsFull p.life.node → Move Telling p [] [] (record p { requests = [] })
     hands_on : (p : ProcessState S) (place : ℕ) (requests : List RequestState) (sent : List Carried)
         → p.life.held ≡ nothing → ¬ IsFull p.life.node
         → (first : HandsOnFirst now place p.requests requests) → is_marked first.request.packet ≡ true
         → ArePacketsOf (leader_in p.timing) p.own first.request.packet p.nodes sent
-        → Move p sent [] (record p { requests = requests })
+        → Move Telling p sent [] (record p { requests = requests })
     -- at its node's position
     looks : (p : ProcessState S) (position : ℕ) → IsPosition p.life.node position
-        → Move p [] [] (record p { timing = position_seen position (is_asked_in p) now p.timing })
+        → Move Telling p [] [] (record p { timing = position_seen position (is_asked_in p) now p.timing })
 
   -- one move after the other
-  pub data Moves : ProcessState S → List Carried → List Talk → ProcessState S → Type 0 where
-    none : (p : ProcessState S) → Moves p [] [] p
-    next : (p q r : ProcessState S) (sent more : List Carried) (said told : List Talk) → Moves p sent said q → Move q more told r
-        → Moves p (sent ++ more) (said ++ told) r
+  pub data Moves (part : Part) : ProcessState S → List Carried → List Talk → ProcessState S → Type 0 where
+    none : (p : ProcessState S) → Moves part p [] [] p
+    next : (p q r : ProcessState S) (sent more : List Carried) (said told : List Talk) → Moves part p sent said q
+        → Move part q more told r → Moves part p (sent ++ more) (said ++ told) r
 
-  -- among them one that keeps the time
-  pub record IsTurn (p : ProcessState S) (sent : List Carried) (said : List Talk) (r : ProcessState S) : Type 0 where
-    pub q : ProcessState S
-    pub sent_before : List Carried
-    pub said_before : List Talk
-    pub before : Moves p sent_before said_before q
+  -- and whether a connection was told anything
+  abbrev pub TellsOrNot : ProcessState S → List Carried → List Talk → ProcessState S → Bool → Type 0
+  TellsOrNot p sent said q has_told = Moves Telling p sent said q × (has_told ≡ has_any said)
+
+  -- it takes what has come, hears what clients did, keeps the time, and goes on until no frame of its own waits: whether more may have come
+  pub record TakesAll (p : ProcessState S) (came : List Carried) (heard : List Talk) (q : ProcessState S) (more : Bool) : Type 0 where
+    pub more_came : Bool
+    pub after_packets : ProcessState S
+    pub packets : Moves Taking p came [] after_packets
+    pub all_packets : HasRead polled came more_came
+    pub own_packets : p.life.own ≡ [] → after_packets.life.own ≡ []
+    pub more_heard : Bool
+    pub after_lines : ProcessState S
+    pub lines : Moves Taking after_packets [] heard after_lines
+    pub all_lines : HasRead read heard more_heard
     pub life : LifeState S
     pub knows : TimingState
-    pub keeps_time : KeepsTime storages now q life knows
-    pub sent_after : List Carried
-    pub said_after : List Talk
-    pub after : Moves (record q { life = life; timing = knows }) sent_after said_after r
-    pub all_sent : sent ≡ sent_before ++ sent_after
-    pub all_said : said ≡ said_before ++ said_after
+    pub keeps_time : KeepsTime storages now after_lines life knows
+    pub goes_on : Moves Taking (record after_lines { life = life; timing = knows }) [] [] q
+    pub own : q.life.own ≡ []
+    pub is_more : more ≡ more_came || more_heard
+
+  -- then it tells what came of it. A connection that was told something may have lines that wait unread, too
+  pub record IsTurn (p : ProcessState S) (sent : List Carried) (said : List Talk) (r : ProcessState S) (more : Bool) : Type 0 where
+    pub came : List Carried
+    pub heard : List Talk
+    pub more_came : Bool
+    pub between : ProcessState S
+    pub takes : TakesAll p came heard between more_came
+    pub out : List Carried
+    pub told : List Talk
+    pub has_told : Bool
+    pub tells : TellsOrNot between out told r has_told
+    pub all_sent : sent ≡ came ++ out
+    pub all_said : said ≡ heard ++ told
+    pub is_more : more ≡ more_came || has_told
+
+  -- ---- a turn that breaks off, at an error
+  -- while it takes: behind these moves at most one thing more came or was heard, and at most two happened to its node, as a campaign and a
+  -- tick may, or a checkpoint and a trim
+  pub record StopsTaking (p : ProcessState S) (came : List Carried) (heard : List Talk) (n : NodeState S) : Type 0 where
+    pub between : ProcessState S
+    pub came_before : List Carried
+    pub heard_before : List Talk
+    pub takes : Moves Taking p came_before heard_before between
+    pub last_came : List Carried
+    pub last_heard : List Talk
+    pub one : length last_came + length last_heard ≤ 1
+    pub came_so : All IsArrival last_came
+    pub heard_so : All IsHeard last_heard
+    pub all_came : came ≡ came_before ++ last_came
+    pub all_heard : heard ≡ heard_before ++ last_heard
+    pub near : IsNear storages 2 between.life.node n
+
+  -- while it tells: behind these moves at most one thing happened to its node
+  pub record StopsBehind (p : ProcessState S) (sent : List Carried) (said : List Talk) (n : NodeState S) : Type 0 where
+    pub between : ProcessState S
+    pub tells : Moves Telling p sent said between
+    pub near : IsNear storages 1 between.life.node n
+
+  -- or the next request was handed on to the first nodes
+  pub record HandsOnSome (p : ProcessState S) (sent : List Carried) : Type 0 where
+    pub place : ℕ
+    pub requests : List RequestState
+    pub upto : ℕ
+    pub silent : p.life.held ≡ nothing
+    pub goes_on : ¬ IsFull p.life.node
+    pub first : HandsOnFirst now place p.requests requests
+    pub some : ArePacketsOf (leader_in p.timing) p.own first.request.packet upto sent
+
+  pub record StopsHandingOn (p : ProcessState S) (sent : List Carried) (said : List Talk) (n : NodeState S) : Type 0 where
+    pub between : ProcessState S
+    pub sent_before : List Carried
+    pub last : List Carried
+    pub tells : Moves Telling p sent_before said between
+    pub hands_on : HandsOnSome between last
+    pub all_sent : sent ≡ sent_before ++ last
+    pub same : n ≡ between.life.node
+
+  -- or some went out of what is let out
+  pub data StopsTelling (p : ProcessState S) : List Carried → List Talk → NodeState S → Type 0 where
+    letting_out : (sent : List Carried) (said : List Talk) → LetsOutSome p.life.held.frames p.life.held.replies p.waiting.claims sent said
+        → StopsTelling p sent said p.life.node
+    behind : (sent : List Carried) (said : List Talk) (n : NodeState S) → StopsBehind p sent said n → StopsTelling p sent said n
+    handing_on : (sent : List Carried) (said : List Talk) (n : NodeState S) → StopsHandingOn p sent said n → StopsTelling p sent said n
+
+  pub data IsBrokenOff (p : ProcessState S) : List Carried → List Talk → NodeState S → Type 0 where
+    while_taking : (came : List Carried) (heard : List Talk) (n : NodeState S) → StopsTaking p came heard n → IsBrokenOff p came heard n
+    -- it has taken all, and kept the time
+    behind_the_time : (q r s : ProcessState S) (life : LifeState S) (knows : TimingState) (came : List Carried) (heard : List Talk)
+        (more_came more_heard : Bool) (n : NodeState S) → Moves Taking p came [] q → HasRead polled came more_came
+        → Moves Taking q [] heard r → HasRead read heard more_heard → KeepsTime storages now r life knows
+        → Moves Taking (record r { life = life; timing = knows }) [] [] s → IsNear storages 2 s.life.node n → IsBrokenOff p came heard n
+    while_telling : (q : ProcessState S) (came sent : List Carried) (heard said : List Talk) (more : Bool) (n : NodeState S)
+        → TakesAll p came heard q more → StopsTelling q sent said n → IsBrokenOff p (came ++ sent) (heard ++ said) n

@@ -1,5 +1,5 @@
 -- What a process owes its clients: one text for each line.
-use Rattle.std.specs.Prelude.{◌≡◌, ℕ, ◌==◌, ◌+◌, ◌<◌, ⊤, Bool, false, List, ◌++◌, map, Contains, count_by}
+use Rattle.std.specs.Prelude.{◌≡◌, ℕ, ◌==◌, ◌+◌, ◌<◌, ◌≤◌, ⊤, Bool, false, List, ◌++◌, map, Contains, count_by}
 use Rattle.std.specs.List.{filter}
 use Rattle.sessions.specs.SessionReplies.{outcome_code}
 use Rattle.world_model.specs.declared.lists.Replied.{Replied}
@@ -42,7 +42,19 @@ pub record AnswersEach (talk : List Talk) (waiting : WaitingState) : Type 0 wher
 pub record KeepsEach (said : List Talk) (old new : WaitingState) : Type 0 where
   pub keeps : (talk : List Talk) → AnswersEach talk old → AnswersEach (talk ++ said) new
 
+-- no line of a connection that hasn't gone was answered by more than one text
+pub record AnswersAtMost (talk : List Talk) : Type 0 where
+  pub each : (connection : ℕ) → ¬ Contains talk (Went connection)
+      → count_by (is_text_to connection) talk ≤ count_by (is_line_of connection) talk
+
+-- so it is after a part of a turn that broke off once this was said
+pub record BreaksOff (said : List Talk) (old : WaitingState) : Type 0 where
+  pub at_most : (talk : List Talk) → AnswersEach talk old → AnswersAtMost (talk ++ said)
+
 -- over a desk, as far as its tape tells
+pub record BreaksOffOver {D : Type 0} (tape : D → List Talk) (Tells : D → Type 0) (old : WaitingState) (desk desk' : D) : Type 0 where
+  pub at_most : Tells desk' → AnswersEach (tape desk) old → AnswersAtMost (tape desk')
+
 pub record KeepsEachOver {D : Type 0} (tape : D → List Talk) (Tells : D → Type 0) (old : WaitingState) (desk : D)
     (new : WaitingState) (desk' : D) : Type 0 where
   pub keeps : Tells desk' → AnswersEach (tape desk) old → AnswersEach (tape desk') new

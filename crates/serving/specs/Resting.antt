@@ -1,5 +1,5 @@
 -- How a process is from one turn to the next.
-use Rattle.std.specs.Prelude.{◌≡◌, ◌+◌, ◌<◌, ◌≤◌, ◌⊎◌, ℕ, true, List, [], Some, IfSome, All, Contains, count_by}
+use Rattle.std.specs.Prelude.{◌≡◌, ◌+◌, ◌<◌, ℕ, Bool, true, false, List, [], ◌∷◌, ◌++◌, length, Option, Some, IfSome, All}
 use Rattle.node_model.specs.Nodes.{NodeState}
 use Rattle.node_model.specs.Replicas.{ReplicaState, is_full, position}
 use Rattle.serving.specs.declared.checkpoints.TheConstants.{SLOTS_BETWEEN_CHECKPOINTS}
@@ -7,7 +7,6 @@ use Rattle.serving.specs.declared.server.TheConstants.{MOST_IN_A_TURN}
 use Rattle.serving.specs.declared.waiting.Question.{Question}
 use Rattle.serving.specs.Knowing.{IsPosition}
 use Rattle.serving.specs.Serving.{ServerState}
-use Rattle.serving.specs.Tapes.{Carried, NothingCame, NothingHeard, Talk, is_arrival, is_heard}
 use Rattle.serving.specs.Waitings.{IsHeldBack}
 
 -- no query that is held back may be answered by now
@@ -35,10 +34,16 @@ pub record Rests {S : Type 0} (s : ServerState S) : Type 0 where
   pub full : IsFull s.life.node → (s.waiting.claims ≡ []) × (s.requests ≡ [])
 
 -- ---- how much a turn takes
--- all that has come, or as much as one turn may
-abbrev pub HasTaken : List Carried → Type 0
-HasTaken carried = Contains carried NothingCame ⊎ (MOST_IN_A_TURN ≤ count_by is_arrival carried)
+-- of what is read one after another, these came
+abbrev pub AllCame : {A : Type 0} → (A → Option Bool) → List A → Type 0
+AllCame came passed = All (λ x. came x ≡ Some true) passed
 
--- all that clients did, or as much as one turn may
-abbrev pub HasListened : List Talk → Type 0
-HasListened talk = Contains talk NothingHeard ⊎ (MOST_IN_A_TURN ≤ count_by is_heard talk)
+-- one reading: something came, or nothing had come
+abbrev pub IsReading : {A : Type 0} → (A → Option Bool) → List A → Bool → Type 0
+IsReading {A} came passed is = (x : A) × (passed ≡ x ∷ []) × (came x ≡ Some is)
+
+-- readings one after another, up to the one by which nothing had come; or as many as a turn may make, and more may have come
+pub data HasRead {A : Type 0} (came : A → Option Bool) : List A → Bool → Type 0 where
+  up_to_the_last : (before : List A) (last : A) → AllCame came before → length before < MOST_IN_A_TURN → came last ≡ Some false
+      → HasRead came (before ++ last ∷ []) false
+  as_many_as_may_be : (passed : List A) → AllCame came passed → length passed ≡ MOST_IN_A_TURN → HasRead came passed true

@@ -1,5 +1,5 @@
 -- What a process has seen of the run, and what is due by the clock. Times are in milliseconds.
-use Rattle.std.specs.Prelude.{ℕ, ◌==◌, ◌||◌, ◌&&◌, ◌⊎◌, ◌+◌, ◌-◌, ◌<◌, ◌≤◌, ◌^◌, nat_lt, min, max, Bool, true, false, IsTrue, Option, Some, None, List, fold, if◌then◌else◌, option_map}
+use Rattle.std.specs.Prelude.{◌≡◌, ℕ, ◌==◌, ◌||◌, ◌&&◌, ◌⊎◌, ◌+◌, ◌-◌, ◌<◌, ◌≤◌, ◌^◌, nat_lt, min, max, Bool, true, false, IsTrue, Option, Some, None, List, fold, if◌then◌else◌, option_map}
 use Rattle.synod.specs.Ballots.{rank, rank_of}
 use Rattle.synod.specs.declared.ballot.Ballot.{Ballot}
 use Rattle.synod.specs.declared.vote.Vote.{Vote}
@@ -156,6 +156,8 @@ IsDueByClock position is_asked now t = IsCampaignDue position is_asked now t ⊎
 pub record IsTimeLeft (position : ℕ) (is_asked : Bool) (now left : ℕ) (t : TimingState) : Type 0 where
   pub never_late : (earlier : ℕ) → earlier < left → ¬ IsDueByClock position is_asked (now + earlier) t
   pub due : t.ticked ≤ now → t.patience.since ≤ now → IsDueByClock position is_asked (now + left) t
+  -- whatever the clock was set to, it doesn't wait for nothing
+  pub at_once : left ≡ 0 → IsDueByClock position is_asked now t
 
 -- in how many milliseconds it ticks, or is impatient
 abbrev pub time_left : ℕ → Bool → ℕ → TimingState → ℕ

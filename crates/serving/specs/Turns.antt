@@ -17,7 +17,8 @@ use Rattle.world_model.specs.declared.lists.Answered.{Answered}
 use Rattle.world_model.specs.declared.lists.Replied.{Replied}
 use Rattle.life.specs.Telling.{ToldLists, joined}
 use Rattle.schedule.specs.Causes.{cause_code}
-use Rattle.schedule.specs.declared.replay_fault.ReplayCause.{ReplayCause}
+use Rattle.schedule.specs.declared.fault.ScheduleFault.{ScheduleFault}
+use Rattle.schedule.specs.declared.replay_fault.ReplayCause.TheVariants.{Schedule}
 use Rattle.clients.specs.AnswerLines.{answer_line, status_line, text_line}
 use Rattle.clients.specs.ClientLines.{IsClientFault, IsClientLine}
 use Rattle.clients.specs.declared.answer.ClientAnswer.TheVariants as answer
@@ -129,8 +130,8 @@ pub data IsPlain {S : Type 0} (Was : NodeState S → Type 0) (talk : List Talk) 
       → HasWritten talk connection (line.Submit submission)
       → text ≡ answer_line (answer.Refused submission.client submission.number (node_code fault)) → IsPlain Was talk connection text
   -- its line has a fault
-  faulty : (asked : List ℕ) (cause : ReplayCause) → Contains talk (Heard connection asked) → IsClientFault asked cause
-      → text ≡ answer_line (answer.Fault (cause_code cause)) → IsPlain Was talk connection text
+  faulty : (asked : List ℕ) (found : ScheduleFault) → Contains talk (Heard connection asked) → IsClientFault asked (Schedule found)
+      → text ≡ answer_line (answer.Fault (cause_code (Schedule found))) → IsPlain Was talk connection text
   -- how far the node was
   status : (n : NodeState S) (known : Status) → Was n → IsPosition n known.position → HasWritten talk connection line.Status
       → text ≡ status_line known → IsPlain Was talk connection text

@@ -1,5 +1,5 @@
 -- What connections wait for.
-use Rattle.std.specs.Prelude.{◌≡◌, ℕ, ◌==◌, ◌||◌, ◌<◌, ◌≤◌, Bool, List, [], ◌∷◌, ◌++◌, All, true, false}
+use Rattle.std.specs.Prelude.{◌≡◌, ℕ, ◌==◌, ◌||◌, ◌<◌, ◌≤◌, Bool, List, [], ◌∷◌, ◌++◌, All, map, true, false}
 use Rattle.std.specs.List.{list_any}
 use Rattle.serving.specs.declared.claims.Claim.{Claim}
 use Rattle.serving.specs.declared.waiting.Question.{Question}
@@ -19,9 +19,18 @@ pub record WaitingState : Type 0 where
 abbrev pub is_asked_by : ℕ → Question → Bool
 is_asked_by connection question = question.connection == connection
 
+abbrev pub receiver_of : Due → ℕ
+receiver_of (due.Answer question) = question.connection
+receiver_of (due.Line receiver line) = receiver
+
 abbrev pub is_told_to : ℕ → Due → Bool
-is_told_to connection (due.Answer question) = question.connection == connection
-is_told_to connection (due.Line receiver line) = receiver == connection
+is_told_to connection what = receiver_of what == connection
+
+-- the connection of each line that waits
+abbrev pub lines_of : WaitingState → List ℕ
+lines_of waiting = map (λ claim. claim.connection) waiting.claims
+    ++ map (λ question. question.connection) waiting.questions
+    ++ map receiver_of waiting.due
 
 -- the connection waits for something
 abbrev pub is_waiting : ℕ → WaitingState → Bool

@@ -1,8 +1,9 @@
 //! What a process is joined to its clients by.
 
-ghost use Rattle.std.specs.Prelude.{◌≡◌, ◌++◌, ◌∷◌, [], All, List};
+ghost use Rattle.std.specs.Prelude.{◌≡◌, ◌++◌, All, List};
 ghost use Rattle.serving.specs.Owing.{HasRoom};
-ghost use Rattle.serving.specs.Tapes.{Talk, Told, heard_in};
+ghost use Rattle.serving.specs.Tapes.{Talk, heard_in, told_in};
+ghost use Rattle.serving.specs.Waitings.{lines_of};
 
 use super::waiting::Waiting;
 use std::alloc::{AllocError, Global};
@@ -28,14 +29,14 @@ pub trait Desk {
 
     /// What a client did, or None where none did anything. Lines of a connection of which as many wait as may stay unread.
     fn next(&mut self, alloc: Global, waiting: &Waiting) -> Result<Option<Came>, AllocError>
-        ensures room { All (HasRoom waiting.now) (heard_in result) }
-        ensures tape { Tells self.new → tape self.new ≡ tape self.old ++ heard_in result }
+        ensures room { All (HasRoom waiting.now) (heard_in (lines_of waiting.now) result) }
+        ensures tape { Tells self.new → tape self.new ≡ tape self.old ++ heard_in (lines_of waiting.now) result }
         ensures told { Tells self.new → Tells self.old }
         ensures kept { ¬ Tells self.new → tape self.new ≡ tape self.old };
 
-    /// Tells the connection a text. One that is gone is told nothing.
+    /// Tells the connection a text. One that is gone is told nothing, and none is after an error.
     fn tell(&mut self, alloc: Global, connection: u64, text: &[u8]) -> Result<(), AllocError>
-        ensures tape { Tells self.new → tape self.new ≡ tape self.old ++ Told connection text.now ∷ [] }
+        ensures tape { Tells self.new → tape self.new ≡ tape self.old ++ told_in connection text.now result }
         ensures told { Tells self.new → Tells self.old }
         ensures kept { ¬ Tells self.new → tape self.new ≡ tape self.old };
 }

@@ -13,10 +13,10 @@ use thiserror::Error;
 /// Why a process can't go on: it ends, and what it had not handed out is lost.
 #[derive(Clone, Copy, Debug, Drop, PartialEq, Eq, Error)]
 pub enum TurnFault {
-    /// A growth was refused.
+    /// A growth was refused, in the process or in its node.
     #[error("out of memory")]
     Memory,
-    /// The node went down.
+    /// The node is down.
     #[error("{0}")]
     Node(NodeFault),
 }
@@ -46,13 +46,13 @@ impl From<io::Error> for TurnFault {
     }
 }
 
-/// Whether the node did it: what it refused it with, where it is still up. Where it went down the process can't go on.
+/// Whether the node did it: what it refused it with, where it is still up. Where it is down, or out of memory, the process can't go on.
 pub(crate) fn refusal(outcome: Result<(), LifeFault>) -> Result<Option<NodeFault>, TurnFault>
     ensures { IsRefusal outcome result }
 {
     match outcome {
         Ok(()) => Ok(None),
-        Err(LifeFault::Memory) => Err(TurnFault::Memory),
+        Err(LifeFault::Memory) | Err(LifeFault::Node(NodeFault::Memory)) => Err(TurnFault::Memory),
         Err(LifeFault::Node(fault)) => {
             if fault.is_stop() || fault == NodeFault::Down {
                 Err(TurnFault::Node(fault))

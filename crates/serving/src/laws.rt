@@ -36,13 +36,14 @@ pub fn clients_are_told_the_same<S: Stable>()
         → mine.replied.position ≡ yours.replied.position → outcome_code mine.replied.reply ≡ outcome_code yours.replied.reply }
 {}
 
-/// A turn takes something, and connections may wait. A checkpoint comes long before the log is full. A node that wants anything ticks
-/// before it hands on a request again, and that before any node is impatient.
+/// A turn takes something and not too much, and connections may wait. A checkpoint comes long before the log is full. A node that wants
+/// anything ticks before it hands on a request again, and that before any node is impatient. The least patience and an idle node's period
+/// are a second at most.
 pub fn limits_are_in_order()
-    ensures turns { 0 < MOST_IN_A_TURN }
-    ensures claims { 0 < MOST_CLAIMS }
-    ensures checkpoints { SLOTS_BETWEEN_CHECKPOINTS < SLOTS }
-    ensures ticks { BUSY_PERIOD ≤ IDLE_PERIOD }
+    ensures turns { (0 < MOST_IN_A_TURN) × (MOST_IN_A_TURN ≤ 1024) }
+    ensures claims { (0 < MOST_CLAIMS) × (MOST_CLAIMS ≤ 64) }
+    ensures checkpoints { (SLOTS_BETWEEN_CHECKPOINTS < SLOTS) × (SLOTS_BETWEEN_CHECKPOINTS ≤ 4096) }
+    ensures ticks { (BUSY_PERIOD ≤ IDLE_PERIOD) × (IDLE_PERIOD ≤ 1000) }
     ensures hands_on { BUSY_PERIOD ≤ HAND_ON_PERIOD }
-    ensures patience { HAND_ON_PERIOD ≤ LEAST_PATIENCE }
+    ensures patience { (HAND_ON_PERIOD ≤ LEAST_PATIENCE) × (LEAST_PATIENCE ≤ 1000) }
 {}

@@ -1,7 +1,7 @@
 //! What a process is joined to the other nodes by.
 
-ghost use Rattle.std.specs.Prelude.{◌≡◌, ◌++◌, ◌∷◌, [], List};
-ghost use Rattle.serving.specs.Tapes.{Carried, Sent, came_in};
+ghost use Rattle.std.specs.Prelude.{◌≡◌, ◌++◌, List};
+ghost use Rattle.serving.specs.Tapes.{Carried, came_in, sent_in};
 
 use std::alloc::{AllocError, Global};
 use wire::NodeId;
@@ -18,9 +18,9 @@ pub trait Network {
     /// The tape is true.
     ghost Tells: { Self → Type 0 };
 
-    /// Sends the bytes to a node. Where they can't be sent they are lost.
+    /// Sends the bytes to a node. Where they can't be sent they are lost. After an error none of them is sent.
     fn send(&mut self, alloc: Global, to: NodeId, bytes: &[u8]) -> Result<(), AllocError>
-        ensures tape { Tells self.new → tape self.new ≡ tape self.old ++ Sent to bytes.now ∷ [] }
+        ensures tape { Tells self.new → tape self.new ≡ tape self.old ++ sent_in to bytes.now result }
         ensures told { Tells self.new → Tells self.old }
         ensures kept { ¬ Tells self.new → tape self.new ≡ tape self.old };
 

@@ -1,21 +1,20 @@
 //! A process that serves a node.
 
-ghost use Rattle.std.specs.Prelude.{◌≡◌, ℕ, [], Contains, IfOk, OnOk, Result, false};
+ghost use Rattle.std.specs.Prelude.{◌≡◌, ℕ, [], IfErr, IfOk, OnErr, OnOk, Result};
 ghost use Rattle.node_model.specs.declared.fault.NodeFault.{NodeFault};
 ghost use Rattle.node_model.specs.declared.input.Input.TheVariants as input;
 ghost use Rattle.world_model.specs.Lives.{down_over};
 ghost use Rattle.life.specs.Telling.{nothing};
 ghost use Rattle.serving.specs.Knowing.{IsPosition};
 ghost use Rattle.serving.specs.Learning.{Learns};
-ghost use Rattle.serving.specs.Moves.{IsGivenWhere, IsTurn, KeepsTime, Moves};
+ghost use Rattle.serving.specs.Moves.{IsGivenWhere, IsTurn, KeepsTime, IsBrokenOff, Moves, StopsTelling, Taking, TakesAll, TellsOrNot};
 ghost use Rattle.serving.specs.Processes.{HasLooked};
 ghost use Rattle.serving.specs.Outgoing.{IsArrival, IsRightlySent};
-ghost use Rattle.serving.specs.Owing.{KeepsEachOver};
+ghost use Rattle.serving.specs.Owing.{BreaksOff, BreaksOffOver, KeepsEachOver};
 ghost use Rattle.serving.specs.Requesting.{NoneIsDue};
-ghost use Rattle.serving.specs.Resting.{HasListened, HasTaken, IsCheckpointed, Rests};
+ghost use Rattle.serving.specs.Resting.{IsCheckpointed, Rests};
 ghost use Rattle.serving.specs.Serving.{IsServing, Passes, PassesBoth, PassesOnly, Serves, ServesOver, begun, has_requests};
-ghost use Rattle.serving.specs.Staying.{StaysUp, WasGiven};
-ghost use Rattle.serving.specs.Tapes.{NothingCame, NothingHeard};
+ghost use Rattle.serving.specs.Staying.{HasEnded, IsNear, StaysUp, WasGiven};
 ghost use Rattle.serving.specs.Timings.{IsCampaignDue, IsTickDue, IsTimeLeft, campaigned, first_timing, leader_in};
 ghost use Rattle.serving.specs.Turns.{IsOfProcess};
 
@@ -71,9 +70,14 @@ impl<S: Stable + Drop> Server<S> {
         horizon: Horizon,
         now: u64,
     ) -> Server<S>
-        ensures own { result.own ≡ own }
-        ensures nodes { result.nodes ≡ nodes }
-        ensures timing { result.timing ≡ first_timing own horizon now }
+        ensures process { process_of result ≡ record {
+          own = own;
+          nodes = nodes;
+          life = life_of life;
+          waiting = record { claims = []; questions = []; due = [] };
+          requests = [];
+          timing = first_timing own horizon now;
+        } }
         ensures born { (id count : ℕ) (storage : S) → IsBorn S.Stable id count storage (life_of life)
             → (loaded : Result (Unit {0}) NodeFault)
             × IsServing S.Stable (down_over id count storage) (begun loaded) (server_of result) }
@@ -113,7 +117,7 @@ impl<S: Stable + Drop> Server<S> {
     }
 
     /// Takes what has come, and hands out what comes of it: whether more may have come. After a fault the process is to end; what it
-    /// let out before that is as right as ever.
+    /// let out before that is as right as ever, and no line of a client was answered twice.
     pub fn turn<N: Network, D: Desk>(
         &mut self,
         alloc: Global,
@@ -131,16 +135,16 @@ impl<S: Stable + Drop> Server<S> {
             network.old network.new) }
         ensures handed_on { OnOk result (NoneIsDue now self.new.requests) }
         ensures learns { OnOk result (Learns N.tape N.Tells self.old network.old self.new network.new) }
-        ensures moves { OnOk result (PassesBoth N.tape N.Tells D.tape D.Tells (λ sent said.
-            IsTurn S.Stable now (process_of self.old) sent said (process_of self.new)) network.old desk.old network.new desk.new) }
+        ensures moves { IfOk result (λ more. PassesBoth N.tape N.Tells D.tape D.Tells (λ sent said.
+            IsTurn S.Stable now (process_of self.old) sent said (process_of self.new) more) network.old desk.old network.new desk.new) }
         ensures held { OnOk result ((life_of self.new.life).held ≡ nothing) }
         ensures own { OnOk result ((life_of self.new.life).own ≡ []) }
-        ensures quiet { IfOk result (λ more_came. more_came ≡ false
-            → Passes N.tape N.Tells (λ sent. Contains sent NothingCame) network.old network.new
-            × Passes D.tape D.Tells (λ said. Contains said NothingHeard) desk.old desk.new) }
-        ensures takes { OnOk result (Passes N.tape N.Tells HasTaken network.old network.new
-            × Passes D.tape D.Tells HasListened desk.old desk.new) }
         ensures looked { OnOk result (HasLooked (process_of self.new)) }
+        ensures breaks { OnErr result (BreaksOffOver D.tape D.Tells self.old.waiting desk.old desk.new) }
+        ensures stops { OnErr result (PassesBoth N.tape N.Tells D.tape D.Tells (λ sent said.
+            IsBrokenOff S.Stable now (process_of self.old) sent said (life_of self.new.life).node)
+            network.old desk.old network.new desk.new) }
+        ensures ends { IfErr result (HasEnded (life_of self.new.life).node) }
     {
         let more_came = self.take(alloc, network, desk, now)?;
         let has_told = self.tell(alloc, network, desk, now)?;
@@ -163,14 +167,15 @@ impl<S: Stable + Drop> Server<S> {
             (server_of self.new) network.new desk.new }
         ensures comes { OnOk result (PassesOnly N.tape N.Tells IsArrival network.old network.new) }
         ensures checkpoints { OnOk result (IsCheckpointed (life_of self.new.life).node) }
-        ensures moves { OnOk result (PassesBoth N.tape N.Tells D.tape D.Tells (λ sent said.
-            IsTurn S.Stable now (process_of self.old) sent said (process_of self.new)) network.old desk.old network.new desk.new) }
+        ensures takes { IfOk result (λ more. PassesBoth N.tape N.Tells D.tape D.Tells (λ came said.
+            TakesAll S.Stable now (process_of self.old) came said (process_of self.new) more)
+            network.old desk.old network.new desk.new) }
         ensures own { OnOk result ((life_of self.new.life).own ≡ []) }
-        ensures quiet { IfOk result (λ more_came. more_came ≡ false
-            → Passes N.tape N.Tells (λ sent. Contains sent NothingCame) network.old network.new
-            × Passes D.tape D.Tells (λ said. Contains said NothingHeard) desk.old desk.new) }
-        ensures takes { OnOk result (Passes N.tape N.Tells HasTaken network.old network.new
-            × Passes D.tape D.Tells HasListened desk.old desk.new) }
+        ensures breaks { OnErr result (Passes D.tape D.Tells (λ said. BreaksOff said self.old.waiting) desk.old desk.new) }
+        ensures stops { OnErr result (PassesBoth N.tape N.Tells D.tape D.Tells (λ sent said.
+            IsBrokenOff S.Stable now (process_of self.old) sent said (life_of self.new.life).node)
+            network.old desk.old network.new desk.new) }
+        ensures ends { IfErr result (HasEnded (life_of self.new.life).node) }
     {
         let more_frames = self.take_frames(alloc, network, now)?;
         let more_lines = self.take_lines(alloc, desk)?;
@@ -195,10 +200,16 @@ impl<S: Stable + Drop> Server<S> {
         ensures sends { OnOk result (PassesOnly N.tape N.Tells (IsRightlySent (leader_in self.new.timing) self.new.own)
             network.old network.new) }
         ensures handed_on { OnOk result (NoneIsDue now self.new.requests) }
-        ensures moves { OnOk result (PassesBoth N.tape N.Tells D.tape D.Tells (λ sent said.
-            Moves S.Stable now (process_of self.old) sent said (process_of self.new)) network.old desk.old network.new desk.new) }
+        ensures moves { IfOk result (λ has_told. PassesBoth N.tape N.Tells D.tape D.Tells (λ sent said.
+            TellsOrNot S.Stable now (process_of self.old) sent said (process_of self.new) has_told)
+            network.old desk.old network.new desk.new) }
         ensures held { OnOk result ((life_of self.new.life).held ≡ nothing) }
         ensures own { OnOk result ((life_of self.new.life).own ≡ (life_of self.old.life).own) }
+        ensures breaks { OnErr result (Passes D.tape D.Tells (λ said. BreaksOff said self.old.waiting) desk.old desk.new) }
+        ensures stops { OnErr result (PassesBoth N.tape N.Tells D.tape D.Tells (λ sent said.
+            StopsTelling S.Stable now (process_of self.old) sent said (life_of self.new.life).node)
+            network.old desk.old network.new desk.new) }
+        ensures ends { IfErr result (HasEnded (life_of self.new.life).node) }
     {
         let has_replied = self.let_out(alloc, network, desk, now)?;
         let has_answered = self.tell_ripe(alloc, desk)?;
@@ -218,6 +229,8 @@ impl<S: Stable + Drop> Server<S> {
     // What is due by the clock.
     fn keep_time(&mut self, alloc: Global, now: u64) -> Result<(), TurnFault>
         ensures serves { Serves S.Stable (server_of self.old) [] [] (server_of self.new) }
+        ensures near { OnErr result (IsNear S.Stable 2 (life_of self.old.life).node (life_of self.new.life).node) }
+        ensures ends { IfErr result (HasEnded (life_of self.new.life).node) }
         ensures keeps { OnOk result (KeepsTime S.Stable now (process_of self.old) (life_of self.new.life) self.new.timing) }
         ensures others { process_of self.new ≡ record (process_of self.old) { life = life_of self.new.life; timing = self.new.timing } }
     {
@@ -237,6 +250,8 @@ impl<S: Stable + Drop> Server<S> {
         now: u64,
     ) -> Result<(), TurnFault>
         ensures serves { Serves S.Stable (server_of self.old) [] [] (server_of self.new) }
+        ensures near { OnErr result (IsNear S.Stable 1 (life_of self.old.life).node (life_of self.new.life).node) }
+        ensures ends { IfErr result (HasEnded (life_of self.new.life).node) }
         ensures campaigns { OnOk result (IsGivenWhere S.Stable (IsCampaignDue position is_asked now self.old.timing) input.Timeout
             (campaigned now self.old.timing) (life_of self.old.life) self.old.timing (life_of self.new.life) self.new.timing) }
         ensures others { process_of self.new ≡ record (process_of self.old) { life = life_of self.new.life; timing = self.new.timing } }
@@ -257,6 +272,8 @@ impl<S: Stable + Drop> Server<S> {
         now: u64,
     ) -> Result<(), TurnFault>
         ensures serves { Serves S.Stable (server_of self.old) [] [] (server_of self.new) }
+        ensures near { OnErr result (IsNear S.Stable 1 (life_of self.old.life).node (life_of self.new.life).node) }
+        ensures ends { IfErr result (HasEnded (life_of self.new.life).node) }
         ensures ticks { OnOk result (IsGivenWhere S.Stable (IsTickDue position is_asked now self.old.timing) input.Tick
             (record self.old.timing { ticked = now }) (life_of self.old.life) self.old.timing (life_of self.new.life) self.new.timing) }
         ensures others { process_of self.new ≡ record (process_of self.old) { life = life_of self.new.life; timing = self.new.timing } }
@@ -269,9 +286,11 @@ impl<S: Stable + Drop> Server<S> {
 
     // A checkpoint where one is due, and what it stands for is taken out.
     fn keep_records(&mut self, alloc: Global) -> Result<(), TurnFault>
+        ensures near { OnErr result (IsNear S.Stable 2 (life_of self.old.life).node (life_of self.new.life).node) }
+        ensures ends { IfErr result (HasEnded (life_of self.new.life).node) }
         ensures checkpoints { OnOk result (IsCheckpointed (life_of self.new.life).node) }
         ensures serves { Serves S.Stable (server_of self.old) [] [] (server_of self.new) }
-        ensures moves { (now : ℕ) → OnOk result (Moves S.Stable now (process_of self.old) [] [] (process_of self.new)) }
+        ensures moves { (now : ℕ) → OnOk result (Moves S.Stable now Taking (process_of self.old) [] [] (process_of self.new)) }
         ensures own { OnOk result ((life_of self.new.life).own ≡ (life_of self.old.life).own) }
     {
         if !is_checkpoint_due(self.position(), self.life.node().floor()) {
@@ -285,6 +304,8 @@ impl<S: Stable + Drop> Server<S> {
     // The node takes what the process gives it by itself.
     fn give(&mut self, alloc: Global, input: Input) -> Result<(), TurnFault>
         requires { IsOfProcess input }
+        ensures near { OnErr result (IsNear S.Stable 1 (life_of self.old.life).node (life_of self.new.life).node) }
+        ensures ends { IfErr result (HasEnded (life_of self.new.life).node) }
         ensures gives { OnOk result (WasGiven S.Stable (life_of self.old.life) input (life_of self.new.life)) }
         ensures serves { Serves S.Stable (server_of self.old) [] [] (server_of self.new) }
         ensures others { process_of self.new ≡ record (process_of self.old) { life = life_of self.new.life } }

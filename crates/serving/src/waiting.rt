@@ -1,10 +1,10 @@
 //! What connections wait for.
 
-ghost use Rattle.std.specs.Prelude.{◌≡◌, ◌≤◌, ◌↔◌, ◌++◌, ◌∷◌, [], IsTrue, OnOk, OnErr, IfSome, IfNone, MatchOption, All, filter, length, not};
+ghost use Rattle.std.specs.Prelude.{◌≡◌, ◌≤◌, ◌↔◌, ◌++◌, ◌∷◌, [], IsTrue, OnOk, OnErr, IfSome, IfNone, IfOk, MatchOption, All, filter, length, map, not};
 ghost use Rattle.std.specs.List.{list_any};
 ghost use Rattle.serving.specs.Claiming.{is_for, is_of};
 ghost use Rattle.serving.specs.Owing.{owed_to};
-ghost use Rattle.serving.specs.Waitings.{is_asked_by, is_told_to, is_waiting, IsHeldBack, IsFirstRipe};
+ghost use Rattle.serving.specs.Waitings.{is_asked_by, is_told_to, is_waiting, lines_of, receiver_of, IsHeldBack, IsFirstRipe};
 
 use super::claims::{Claim, Claims, MOST_CLAIMS};
 use std::alloc::{AllocError, Global};
@@ -31,17 +31,21 @@ pub enum Due {
 }
 
 impl Due {
+    /// Which connection is told it.
+    pub fn receiver(&self) -> u64
+        ensures { result ≡ receiver_of self.now }
+    {
+        match self {
+            Due::Answer(question) => question.connection,
+            Due::Line { connection, .. } => *connection,
+        }
+    }
+
     /// Whether this connection is told it.
     pub fn is_to(&self, connection: u64) -> bool
         ensures { result ≡ is_told_to connection self.now }
     {
-        match self {
-            Due::Answer(question) => question.connection == connection,
-            Due::Line {
-                connection: receiver,
-                ..
-            } => *receiver == connection,
-        }
+        self.receiver() == connection
     }
 }
 
@@ -207,6 +211,44 @@ impl Waiting {
         self.questions
             .retain(|question| question.connection != connection);
         self.due.retain(|due| !due.is_to(connection));
+    }
+
+    /// The connection of each line that waits.
+    pub fn lines(&self, alloc: Global) -> Result<Vec<u64>, AllocError>
+        ensures { IfOk result (λ lines. lines.items ≡ lines_of self.now) }
+    {
+        let mut lines = Vec::new(alloc);
+        self.list_claims(&mut lines)?;
+        self.list_questions(&mut lines)?;
+        self.list_due(&mut lines)?;
+        Ok(lines)
+    }
+
+    fn list_claims(&self, lines: &mut Vec<u64>) -> Result<(), AllocError>
+        ensures { OnOk result (lines.new.items ≡ lines.old.items ++ map (λ claim. claim.connection) self.now.claims) }
+    {
+        'claims: for claim in self.claims.as_slice().iter() {
+            lines.push(claim.connection)?;
+        }
+        Ok(())
+    }
+
+    fn list_questions(&self, lines: &mut Vec<u64>) -> Result<(), AllocError>
+        ensures { OnOk result (lines.new.items ≡ lines.old.items ++ map (λ question. question.connection) self.now.questions) }
+    {
+        'questions: for question in self.questions.iter() {
+            lines.push(question.connection)?;
+        }
+        Ok(())
+    }
+
+    fn list_due(&self, lines: &mut Vec<u64>) -> Result<(), AllocError>
+        ensures { OnOk result (lines.new.items ≡ lines.old.items ++ map receiver_of self.now.due) }
+    {
+        'due: for place in 0..self.due.len() {
+            lines.push(self.due[place].receiver())?;
+        }
+        Ok(())
     }
 
     // Whether a query of the connection is held back.

@@ -1,16 +1,19 @@
 //! What a process tells its clients.
 
-ghost use Rattle.std.specs.Prelude.{◌≡◌, ◌≤◌, ◌<◌, ℕ, ◌+◌, ◌-◌, ◌∷◌, ◌++◌, [], OnOk, IfOk, MatchBool, length};
+ghost use Rattle.wire.specs.declared.frames.envelope.Envelope.{Envelope};
+ghost use Rattle.std.specs.Prelude.{◌≡◌, ◌≤◌, ◌<◌, ℕ, List, ◌+◌, ◌-◌, ◌∷◌, ◌++◌, [], IfErr, IfOk, MatchBool, OnErr, OnOk, length, take, true, false};
 ghost use Rattle.life.specs.Telling.{nothing};
 ghost use Rattle.clients.specs.AnswerLines.{text_line};
-ghost use Rattle.serving.specs.Moves.{AreRepliesTold, IsAnswered, Moves};
-ghost use Rattle.serving.specs.Outgoing.{IsReplyIn, IsTextTo, KeepsLess};
+ghost use Rattle.serving.specs.Moves.{AreRepliesTold, IsAnswered, LetsOutSome, Moves, StopsBehind, Telling, TellsOrNot};
+ghost use Rattle.serving.specs.Outgoing.{AreFramesOf, IsReplyIn, IsTextTo, KeepsLess};
 ghost use Rattle.serving.specs.Knowing.{IsPosition};
-ghost use Rattle.serving.specs.Owing.{reply_told};
+ghost use Rattle.serving.specs.Owing.{BreaksOff, reply_told};
 ghost use Rattle.serving.specs.Requesting.{unreplied};
 ghost use Rattle.serving.specs.Resting.{IsFull, KeepsRequests, NoneIsRipe};
 ghost use Rattle.serving.specs.Serving.{Passes, PassesOnly, Serves, ServesClients, asking};
-ghost use Rattle.serving.specs.Tapes.{HasPassed, Told};
+ghost use Rattle.serving.specs.Staying.{HasEnded, IsNear};
+ghost use Rattle.serving.specs.Tapes.{Carried, HasPassed, Told};
+ghost use Rattle.serving.specs.declared.fault.TurnFault.TheVariants as turn_fault;
 
 use super::Server;
 use crate::claims::Claim;
@@ -45,6 +48,10 @@ impl<S: Stable + Drop> Server<S> {
           waiting = record self.old.waiting { claims = self.new.waiting.claims };
           requests = self.new.requests;
         } }
+        ensures breaks { OnErr result (Passes D.tape D.Tells (λ said. BreaksOff said self.old.waiting) desk.old desk.new) }
+        ensures some { OnErr result (Passes D.tape D.Tells (λ said. (sent : List Carried) (frames : List Envelope)
+            → AreFramesOf frames sent → LetsOutSome frames replies.now self.old.waiting.claims sent said) desk.old desk.new) }
+        ensures memory { IfErr result (λ fault. fault ≡ turn_fault.Memory) }
     {
         'replies: for replied in replies.iter() {
             tell_reply(alloc, desk, self.waiting.claims(), replied)?;
@@ -64,8 +71,13 @@ impl<S: Stable + Drop> Server<S> {
         ensures serves { ServesClients S.Stable D.tape D.Tells (server_of self.old) desk.old (server_of self.new) desk.new }
         ensures node { OnOk result ((life_of self.new.life).node ≡ (life_of self.old.life).node) }
         ensures ripe { OnOk result (NoneIsRipe (life_of self.new.life).node self.new.waiting.questions) }
-        ensures moves { (now : ℕ) → (life_of self.old.life).held ≡ nothing → OnOk result (Passes D.tape D.Tells (λ said.
-            Moves S.Stable now (process_of self.old) [] said (process_of self.new)) desk.old desk.new) }
+        ensures moves { (now : ℕ) → (life_of self.old.life).held ≡ nothing → IfOk result (λ has_told. Passes D.tape D.Tells (λ said.
+            TellsOrNot S.Stable now (process_of self.old) [] said (process_of self.new) has_told) desk.old desk.new) }
+        ensures stops { (now : ℕ) → (life_of self.old.life).held ≡ nothing → OnErr result (Passes D.tape D.Tells (λ said.
+            StopsBehind S.Stable now (process_of self.old) [] said (life_of self.new.life).node) desk.old desk.new) }
+        ensures ends { IfErr result (HasEnded (life_of self.new.life).node) }
+        ensures breaks { (life_of self.old.life).held ≡ nothing → OnErr result (Passes D.tape D.Tells (λ said.
+            BreaksOff said self.old.waiting) desk.old desk.new) }
         ensures held { (life_of self.old.life).held ≡ nothing → OnOk result ((life_of self.new.life).held ≡ nothing) }
         ensures own { OnOk result ((life_of self.new.life).own ≡ (life_of self.old.life).own) }
     {
@@ -86,8 +98,11 @@ impl<S: Stable + Drop> Server<S> {
         ensures less { IfOk result (λ has_told. MatchBool has_told
             (length self.new.waiting.questions + 1 ≡ length self.old.waiting.questions)
             (NoneIsRipe (life_of self.new.life).node self.new.waiting.questions)) }
-        ensures moves { (now : ℕ) → (life_of self.old.life).held ≡ nothing → OnOk result (Passes D.tape D.Tells (λ said.
-            Moves S.Stable now (process_of self.old) [] said (process_of self.new)) desk.old desk.new) }
+        ensures moves { (now : ℕ) → (life_of self.old.life).held ≡ nothing → IfOk result (λ has_told. Passes D.tape D.Tells (λ said.
+            TellsOrNot S.Stable now (process_of self.old) [] said (process_of self.new) has_told) desk.old desk.new) }
+        ensures near { OnErr result (IsNear S.Stable 1 (life_of self.old.life).node (life_of self.new.life).node) }
+        ensures ends { IfErr result (HasEnded (life_of self.new.life).node) }
+        ensures breaks { OnErr result (HasPassed D.tape D.Tells desk.old [] desk.new) }
         ensures held { (life_of self.old.life).held ≡ nothing → OnOk result ((life_of self.new.life).held ≡ nothing) }
         ensures own { OnOk result ((life_of self.new.life).own ≡ (life_of self.old.life).own) }
     {
@@ -107,7 +122,10 @@ impl<S: Stable + Drop> Server<S> {
         ensures questions { self.new.waiting.questions ≡ self.old.waiting.questions }
         ensures full { OnOk result (IsFull (life_of self.new.life).node → (self.new.waiting.claims ≡ []) × (self.new.requests ≡ [])) }
         ensures moves { (now : ℕ) → (life_of self.old.life).held ≡ nothing
-            → OnOk result (Moves S.Stable now (process_of self.old) [] [] (process_of self.new)) }
+            → OnOk result (Moves S.Stable now Telling (process_of self.old) [] [] (process_of self.new)) }
+        ensures stops { (now : ℕ) → (life_of self.old.life).held ≡ nothing
+            → OnErr result (StopsBehind S.Stable now (process_of self.old) [] [] (life_of self.new.life).node) }
+        ensures memory { IfErr result (λ fault. fault ≡ turn_fault.Memory) }
     {
         if self.position() < SLOTS {
             return Ok(());
@@ -127,7 +145,8 @@ impl<S: Stable + Drop> Server<S> {
         ensures questions { self.new.waiting.questions ≡ self.old.waiting.questions }
         ensures less { OnOk result (length self.new.waiting.claims ≡ length self.old.waiting.claims - 1) }
         ensures moves { (now : ℕ) → (life_of self.old.life).held ≡ nothing
-            → OnOk result (Moves S.Stable now (process_of self.old) [] [] (process_of self.new)) }
+            → OnOk result (Moves S.Stable now Telling (process_of self.old) [] [] (process_of self.new)) }
+        ensures memory { IfErr result (λ fault. fault ≡ turn_fault.Memory) }
     {
         let Some(claim) = self.waiting.take_claim() else {
             return Ok(false);
@@ -145,7 +164,7 @@ impl<S: Stable + Drop> Server<S> {
         Ok(true)
     }
 
-    // What is due is told in the order of the lines: whether anything was.
+    // What is due is told in the order of the lines: whether anything was told.
     pub(super) fn tell_due<D: Desk>(
         &mut self,
         alloc: Global,
@@ -158,19 +177,26 @@ impl<S: Stable + Drop> Server<S> {
         ensures requests { KeepsRequests (server_of self.old) (server_of self.new) }
         ensures told { OnOk result (self.new.waiting.due ≡ []) }
         ensures moves { (now : ℕ) → (life_of self.old.life).held ≡ nothing
-            → NoneIsRipe (life_of self.old.life).node self.old.waiting.questions → OnOk result (Passes D.tape D.Tells (λ said.
-            Moves S.Stable now (process_of self.old) [] said (process_of self.new)) desk.old desk.new) }
+            → NoneIsRipe (life_of self.old.life).node self.old.waiting.questions → IfOk result (λ has_told. Passes D.tape D.Tells (λ said.
+            TellsOrNot S.Stable now (process_of self.old) [] said (process_of self.new) has_told) desk.old desk.new) }
+        ensures stops { (now : ℕ) → (life_of self.old.life).held ≡ nothing
+            → NoneIsRipe (life_of self.old.life).node self.old.waiting.questions → OnErr result (Passes D.tape D.Tells (λ said.
+            StopsBehind S.Stable now (process_of self.old) [] said (life_of self.new.life).node) desk.old desk.new) }
+        ensures ends { IfErr result (HasEnded (life_of self.new.life).node) }
+        ensures breaks { (life_of self.old.life).held ≡ nothing → NoneIsRipe (life_of self.old.life).node self.old.waiting.questions
+            → OnErr result (Passes D.tape D.Tells (λ said. BreaksOff said self.old.waiting) desk.old desk.new) }
         ensures held { (life_of self.old.life).held ≡ nothing → OnOk result ((life_of self.new.life).held ≡ nothing) }
         ensures own { OnOk result ((life_of self.new.life).own ≡ (life_of self.old.life).own) }
     {
-        let count = self.waiting.count_due();
-        'due: for _ in 0..count {
-            self.tell_next_due(alloc, desk)?;
+        let mut has_told = false;
+        'due: for _ in 0..self.waiting.count_due() {
+            let was_told = self.tell_next_due(alloc, desk)?;
+            has_told = has_told | was_told;
         }
-        Ok(count > 0)
+        Ok(has_told)
     }
 
-    // What is due next: whether anything is.
+    // What is due next is told, or held back: whether it was told.
     fn tell_next_due<D: Desk>(&mut self, alloc: Global, desk: &mut D) -> Result<bool, TurnFault>
         ensures serves { ServesClients S.Stable D.tape D.Tells (server_of self.old) desk.old (server_of self.new) desk.new }
         ensures node { OnOk result ((life_of self.new.life).node ≡ (life_of self.old.life).node) }
@@ -179,8 +205,11 @@ impl<S: Stable + Drop> Server<S> {
         ensures requests { KeepsRequests (server_of self.old) (server_of self.new) }
         ensures less { OnOk result (length self.new.waiting.due ≡ length self.old.waiting.due - 1) }
         ensures moves { (now : ℕ) → (life_of self.old.life).held ≡ nothing
-            → NoneIsRipe (life_of self.old.life).node self.old.waiting.questions → OnOk result (Passes D.tape D.Tells (λ said.
-            Moves S.Stable now (process_of self.old) [] said (process_of self.new)) desk.old desk.new) }
+            → NoneIsRipe (life_of self.old.life).node self.old.waiting.questions → IfOk result (λ has_told. Passes D.tape D.Tells (λ said.
+            TellsOrNot S.Stable now (process_of self.old) [] said (process_of self.new) has_told) desk.old desk.new) }
+        ensures near { OnErr result (IsNear S.Stable 1 (life_of self.old.life).node (life_of self.new.life).node) }
+        ensures ends { IfErr result (HasEnded (life_of self.new.life).node) }
+        ensures breaks { OnErr result (HasPassed D.tape D.Tells desk.old [] desk.new) }
         ensures held { (life_of self.old.life).held ≡ nothing → OnOk result ((life_of self.new.life).held ≡ nothing) }
         ensures own { OnOk result ((life_of self.new.life).own ≡ (life_of self.old.life).own) }
     {
@@ -193,19 +222,20 @@ impl<S: Stable + Drop> Server<S> {
                 Ok(true)
             }
             Due::Answer(question) => {
-                self.answer(alloc, desk, question)?;
-                Ok(true)
+                let was_told = self.answer(alloc, desk, question)?;
+                Ok(was_told)
             }
         }
     }
 
-    // The node is asked, and the connection is told the answer; or the query is held back until the node is at its position.
+    // The node is asked, and the connection is told the answer; or the query is held back until the node is at its position. Whether it
+    // was told.
     fn answer<D: Desk>(
         &mut self,
         alloc: Global,
         desk: &mut D,
         question: Question,
-    ) -> Result<(), TurnFault>
+    ) -> Result<bool, TurnFault>
         ensures serves { ServesClients S.Stable D.tape D.Tells (asking (server_of self.old) question) desk.old
             (server_of self.new) desk.new }
         ensures asked { (position : ℕ) → IsPosition (life_of self.old.life).node position → question.from ≤ position
@@ -216,11 +246,14 @@ impl<S: Stable + Drop> Server<S> {
         ensures requests { KeepsRequests (server_of self.old) (server_of self.new) }
         ensures due { self.new.waiting.due ≡ self.old.waiting.due }
         ensures answers { (position : ℕ) → IsPosition (life_of self.old.life).node position → question.from ≤ position
-            → OnOk result (Passes D.tape D.Tells (λ said.
+            → IfOk result (λ has_told. (has_told ≡ true) × Passes D.tape D.Tells (λ said.
             IsAnswered S.Stable (life_of self.old.life) question said (life_of self.new.life)) desk.old desk.new) }
         ensures holds_back { (position : ℕ) → IsPosition (life_of self.old.life).node position → position < question.from
-            → (desk.new ≡ desk.old) × (life_of self.new.life ≡ life_of self.old.life) × OnOk result (self.new.waiting
-            ≡ record self.old.waiting { questions = self.old.waiting.questions ++ question ∷ [] }) }
+            → (desk.new ≡ desk.old) × (life_of self.new.life ≡ life_of self.old.life) × IfOk result (λ has_told. (has_told ≡ false)
+            × (self.new.waiting ≡ record self.old.waiting { questions = self.old.waiting.questions ++ question ∷ [] })) }
+        ensures near { OnErr result (IsNear S.Stable 1 (life_of self.old.life).node (life_of self.new.life).node) }
+        ensures ends { IfErr result (HasEnded (life_of self.new.life).node) }
+        ensures breaks { OnErr result (HasPassed D.tape D.Tells desk.old [] desk.new) }
         ensures others { process_of self.new ≡ record (process_of self.old) {
           life = life_of self.new.life;
           waiting = self.new.waiting;
@@ -229,7 +262,7 @@ impl<S: Stable + Drop> Server<S> {
         if self.position() < question.from {
             self.waiting
                 .hold(question.connection, question.query, question.from)?;
-            return Ok(());
+            return Ok(false);
         }
         if let Some(fault) = refusal(self.life.ask(alloc, &question.query))? {
             return Err(TurnFault::Node(fault));
@@ -237,8 +270,11 @@ impl<S: Stable + Drop> Server<S> {
         // What was held before has gone out, so that the answer alone is held.
         let told = self.life.hand_out(alloc);
         match told.answers.last() {
-            Some(answered) => tell_answer(alloc, desk, question.connection, answered),
-            None => Ok(()),
+            Some(answered) => {
+                tell_answer(alloc, desk, question.connection, answered)?;
+                Ok(true)
+            }
+            None => Ok(false),
         }
     }
 }
@@ -252,6 +288,9 @@ fn tell_reply<D: Desk>(
 ) -> Result<(), TurnFault>
     ensures only { PassesOnly D.tape D.Tells (IsReplyIn (replied.now ∷ []) claims.now) desk.old desk.new }
     ensures each { OnOk result (HasPassed D.tape D.Tells desk.old (reply_told replied.now claims.now) desk.new) }
+    ensures breaks { OnErr result (Passes D.tape D.Tells (λ said. (count : ℕ) × (said ≡ reply_told replied.now (take count claims.now)))
+        desk.old desk.new) }
+    ensures memory { IfErr result (λ fault. fault ≡ turn_fault.Memory) }
 {
     let number = replied.number.value();
     let answer = ClientAnswer::Reply {
@@ -280,6 +319,8 @@ fn tell_answer<D: Desk>(
     ensures only { PassesOnly D.tape D.Tells (IsTextTo connection answered.now) desk.old desk.new }
     ensures once { OnOk result (HasPassed D.tape D.Tells desk.old
         (Told connection (text_line answered.now.position answered.now.text) ∷ []) desk.new) }
+    ensures breaks { OnErr result (HasPassed D.tape D.Tells desk.old [] desk.new) }
+    ensures memory { IfErr result (λ fault. fault ≡ turn_fault.Memory) }
 {
     let answer = ClientAnswer::Text {
         position: answered.position,

@@ -1,18 +1,20 @@
 //! What comes to a process from the other nodes, and from its own.
 
-ghost use Rattle.std.specs.Prelude.{◌≡◌, ◌≤◌, ℕ, ◌∷◌, [], IfOk, IsTrue, MatchBool, MatchOption, OnOk, Contains, count_by, true, false, ◌↔◌};
+ghost use Rattle.std.specs.Prelude.{◌≡◌, ◌≤◌, ℕ, ◌∷◌, [], IfErr, IfOk, IsTrue, MatchBool, MatchOption, OnErr, OnOk, ◌↔◌};
 ghost use Rattle.wire.specs.FrameReading.{frame_in};
 ghost use Rattle.node_model.specs.declared.input.Input.TheVariants as input;
 ghost use Rattle.clients.specs.ClientLines.{IsClientLine};
 ghost use Rattle.clients.specs.declared.line.ClientLine.TheVariants as client_line;
 ghost use Rattle.serving.specs.Knowing.{IsLastNumber};
-ghost use Rattle.serving.specs.Moves.{Moves, TakesOwn};
+ghost use Rattle.serving.specs.Moves.{Moves, StopsTaking, Taking, TakesOwn};
 ghost use Rattle.serving.specs.Outgoing.{IsArrival};
 ghost use Rattle.serving.specs.Packets.{IsMessageTaken, IsTakenOnce, IsTakenOver, SubmitsNothing};
-ghost use Rattle.serving.specs.Resting.{HasTaken};
+ghost use Rattle.serving.specs.Resting.{HasRead, IsReading};
 ghost use Rattle.serving.specs.Serving.{Passes, PassesOnly, Serves, ServesNodes};
-ghost use Rattle.serving.specs.Tapes.{Arrived, NothingCame, is_arrival};
+ghost use Rattle.serving.specs.Staying.{HasEnded, IsNear};
+ghost use Rattle.serving.specs.Tapes.{Arrived, polled};
 ghost use Rattle.serving.specs.Turns.{handed_on};
+ghost use Rattle.serving.specs.declared.fault.TurnFault.TheVariants as turn_fault;
 
 use super::{MOST_IN_A_TURN, Server};
 use crate::fault::{TurnFault, refusal};
@@ -39,11 +41,13 @@ impl<S: Stable + Drop> Server<S> {
     ) -> Result<bool, TurnFault>
         ensures serves { ServesNodes S.Stable N.tape N.Tells (server_of self.old) network.old (server_of self.new) network.new }
         ensures comes { OnOk result (PassesOnly N.tape N.Tells IsArrival network.old network.new) }
-        ensures moves { OnOk result (Passes N.tape N.Tells (λ sent. Moves S.Stable now (process_of self.old) sent [] (process_of self.new))
+        ensures takes { IfOk result (λ more. Passes N.tape N.Tells (λ came.
+            Moves S.Stable now Taking (process_of self.old) came [] (process_of self.new) × HasRead polled came more)
             network.old network.new) }
-        ensures quiet { IfOk result (λ more. more ≡ false → Passes N.tape N.Tells (λ sent. Contains sent NothingCame)
-            network.old network.new) }
-        ensures takes { OnOk result (Passes N.tape N.Tells HasTaken network.old network.new) }
+        ensures own { (life_of self.old.life).own ≡ [] → OnOk result ((life_of self.new.life).own ≡ []) }
+        ensures stops { OnErr result (Passes N.tape N.Tells (λ came.
+            StopsTaking S.Stable now (process_of self.old) came [] (life_of self.new.life).node) network.old network.new) }
+        ensures ends { IfErr result (HasEnded (life_of self.new.life).node) }
     {
         'frames: for _ in 0..MOST_IN_A_TURN {
             if !self.take_next_frame(alloc, network, now)? {
@@ -62,12 +66,13 @@ impl<S: Stable + Drop> Server<S> {
     ) -> Result<bool, TurnFault>
         ensures serves { ServesNodes S.Stable N.tape N.Tells (server_of self.old) network.old (server_of self.new) network.new }
         ensures comes { OnOk result (PassesOnly N.tape N.Tells IsArrival network.old network.new) }
-        ensures moves { OnOk result (Passes N.tape N.Tells (λ sent. Moves S.Stable now (process_of self.old) sent [] (process_of self.new))
+        ensures takes { IfOk result (λ has_come. Passes N.tape N.Tells (λ came.
+            Moves S.Stable now Taking (process_of self.old) came [] (process_of self.new) × IsReading polled came has_come)
             network.old network.new) }
-        ensures quiet { IfOk result (λ more. more ≡ false → Passes N.tape N.Tells (λ sent. Contains sent NothingCame)
-            network.old network.new) }
-        ensures takes { IfOk result (λ came. came ≡ true → Passes N.tape N.Tells (λ sent. count_by is_arrival sent ≡ 1)
-            network.old network.new) }
+        ensures own { (life_of self.old.life).own ≡ [] → OnOk result ((life_of self.new.life).own ≡ []) }
+        ensures stops { OnErr result (Passes N.tape N.Tells (λ came.
+            StopsTaking S.Stable now (process_of self.old) came [] (life_of self.new.life).node) network.old network.new) }
+        ensures ends { IfErr result (HasEnded (life_of self.new.life).node) }
     {
         let came = network.poll(alloc)?;
         let Some(bytes) = came else {
@@ -81,7 +86,9 @@ impl<S: Stable + Drop> Server<S> {
     // A frame of another node, or a request that it hands on. Anything else is passed over.
     fn take_frame(&mut self, alloc: Global, bytes: &[u8], now: u64) -> Result<(), TurnFault>
         ensures serves { Serves S.Stable (server_of self.old) (Arrived bytes.now ∷ []) [] (server_of self.new) }
-        ensures moves { OnOk result (Moves S.Stable now (process_of self.old) (Arrived bytes.now ∷ []) [] (process_of self.new)) }
+        ensures moves { OnOk result (Moves S.Stable now Taking (process_of self.old) (Arrived bytes.now ∷ []) [] (process_of self.new)) }
+        ensures near { OnErr result (IsNear S.Stable 1 (life_of self.old.life).node (life_of self.new.life).node) }
+        ensures ends { IfErr result (HasEnded (life_of self.new.life).node) }
     {
         if let Some(line) = bytes.strip_prefix(&[HANDED_ON]) {
             return self.take_handed_on(alloc, line);
@@ -92,6 +99,8 @@ impl<S: Stable + Drop> Server<S> {
     // A frame of another node. Anything else is passed over.
     fn take_message(&mut self, alloc: Global, bytes: &[u8], now: u64) -> Result<(), TurnFault>
         ensures serves { Serves S.Stable (server_of self.old) (Arrived bytes.now ∷ []) [] (server_of self.new) }
+        ensures near { OnErr result (IsNear S.Stable 1 (life_of self.old.life).node (life_of self.new.life).node) }
+        ensures ends { IfErr result (HasEnded (life_of self.new.life).node) }
         ensures taken { OnOk result (IsMessageTaken S.Stable now (frame_in self.old.nodes bytes.now)
             (life_of self.old.life) self.old.timing (life_of self.new.life) self.new.timing) }
         ensures others { process_of self.new ≡ record (process_of self.old) { life = life_of self.new.life; timing = self.new.timing } }
@@ -110,6 +119,8 @@ impl<S: Stable + Drop> Server<S> {
     // A line that another process hands on: a request that its client waits for. Anything else is passed over.
     fn take_handed_on(&mut self, alloc: Global, line: &[u8]) -> Result<(), TurnFault>
         ensures serves { Serves S.Stable (server_of self.old) (Arrived (handed_on line.now) ∷ []) [] (server_of self.new) }
+        ensures near { OnErr result (IsNear S.Stable 1 (life_of self.old.life).node (life_of self.new.life).node) }
+        ensures ends { IfErr result (HasEnded (life_of self.new.life).node) }
         ensures taken { OnOk result (IsTakenOver S.Stable line.now (life_of self.old.life) (life_of self.new.life)) }
         ensures others { process_of self.new ≡ record (process_of self.old) { life = life_of self.new.life } }
     {
@@ -129,6 +140,8 @@ impl<S: Stable + Drop> Server<S> {
     ) -> Result<(), TurnFault>
         requires { IsClientLine line.now (client_line.Submit submission) }
         ensures serves { Serves S.Stable (server_of self.old) (Arrived (handed_on line.now) ∷ []) [] (server_of self.new) }
+        ensures near { OnErr result (IsNear S.Stable 1 (life_of self.old.life).node (life_of self.new.life).node) }
+        ensures ends { IfErr result (HasEnded (life_of self.new.life).node) }
         ensures taken { OnOk result (IsTakenOnce S.Stable submission (life_of self.old.life) (life_of self.new.life)) }
         ensures others { process_of self.new ≡ record (process_of self.old) { life = life_of self.new.life } }
     {
@@ -157,7 +170,9 @@ impl<S: Stable + Drop> Server<S> {
     // The node's frames to itself, and those that come of them, until none waits.
     pub(super) fn take_own(&mut self, alloc: Global) -> Result<(), TurnFault>
         ensures serves { Serves S.Stable (server_of self.old) [] [] (server_of self.new) }
-        ensures moves { (now : ℕ) → OnOk result (Moves S.Stable now (process_of self.old) [] [] (process_of self.new)) }
+        ensures moves { (now : ℕ) → OnOk result (Moves S.Stable now Taking (process_of self.old) [] [] (process_of self.new)) }
+        ensures stops { (now : ℕ) → OnErr result (StopsTaking S.Stable now (process_of self.old) [] [] (life_of self.new.life).node) }
+        ensures ends { IfErr result (HasEnded (life_of self.new.life).node) }
         ensures own { OnOk result ((life_of self.new.life).own ≡ []) }
     {
         'own: for _ in 0..u64::MAX {
@@ -173,6 +188,8 @@ impl<S: Stable + Drop> Server<S> {
     fn take_back(&mut self, alloc: Global) -> Result<bool, TurnFault>
         ensures serves { Serves S.Stable (server_of self.old) [] [] (server_of self.new) }
         ensures others { process_of self.new ≡ record (process_of self.old) { life = life_of self.new.life } }
+        ensures near { OnErr result (IsNear S.Stable 1 (life_of self.old.life).node (life_of self.new.life).node) }
+        ensures ends { IfErr result (HasEnded (life_of self.new.life).node) }
         ensures takes { IfOk result (λ taken. MatchBool taken (TakesOwn S.Stable (life_of self.old.life) (life_of self.new.life))
             (((life_of self.old.life).own ≡ []) × (life_of self.new.life ≡ life_of self.old.life))) }
     {
@@ -188,8 +205,9 @@ impl<S: Stable + Drop> Server<S> {
 
 // What the line submits, if it does.
 fn submission_in(alloc: Global, line: &[u8]) -> Result<Option<Submission>, TurnFault>
-    ensures { IfOk result (λ found. MatchOption found (SubmitsNothing line.now)
+    ensures found { IfOk result (λ found. MatchOption found (SubmitsNothing line.now)
         (λ submission. IsClientLine line.now (client_line.Submit submission))) }
+    ensures memory { IfErr result (λ fault. fault ≡ turn_fault.Memory) }
 {
     match read_line(alloc, line) {
         Ok(asked) => match asked {

@@ -1,16 +1,18 @@
 //! What the clients of a process write.
 
-ghost use Rattle.std.specs.Prelude.{◌≡◌, ℕ, ◌∷◌, [], Contains, IfOk, OnOk, count_by, true, false};
+ghost use Rattle.std.specs.Prelude.{◌≡◌, ℕ, ◌∷◌, [], IfErr, IfOk, OnErr, OnOk};
 ghost use Rattle.std.specs.Global.{Vec};
 ghost use Rattle.clients.specs.AnswerLines.{answer_line};
 ghost use Rattle.clients.specs.ClientLines.{IsClientFault, IsClientLine};
 ghost use Rattle.clients.specs.declared.line.ClientLine.TheVariants as client_line;
-ghost use Rattle.serving.specs.Moves.{IsLineTaken, IsStatus, Moves, owing};
-ghost use Rattle.serving.specs.Owing.{HasRoom};
-ghost use Rattle.serving.specs.Resting.{HasListened};
+ghost use Rattle.serving.specs.Moves.{IsLineTaken, IsStatus, Moves, StopsTaking, Taking, owing};
+ghost use Rattle.serving.specs.Owing.{BreaksOff, HasRoom};
+ghost use Rattle.serving.specs.Resting.{HasRead, IsReading};
 ghost use Rattle.serving.specs.Serving.{Passes, Serves, ServesClients};
-ghost use Rattle.serving.specs.Tapes.{Heard, NothingHeard, heard, is_heard};
+ghost use Rattle.serving.specs.Staying.{HasEnded, IsNear};
+ghost use Rattle.serving.specs.Tapes.{Heard, heard, read};
 ghost use Rattle.serving.specs.Turns.{IsPlain, first_position};
+ghost use Rattle.serving.specs.declared.fault.TurnFault.TheVariants as turn_fault;
 
 use super::arrivals::input_of;
 use super::{MOST_IN_A_TURN, Server};
@@ -36,11 +38,12 @@ impl<S: Stable + Drop> Server<S> {
         desk: &mut D,
     ) -> Result<bool, TurnFault>
         ensures serves { ServesClients S.Stable D.tape D.Tells (server_of self.old) desk.old (server_of self.new) desk.new }
-        ensures moves { (now : ℕ) → OnOk result (Passes D.tape D.Tells (λ said. Moves S.Stable now (process_of self.old) [] said (process_of self.new))
-            desk.old desk.new) }
-        ensures quiet { IfOk result (λ more. more ≡ false → Passes D.tape D.Tells (λ said. Contains said NothingHeard)
-            desk.old desk.new) }
-        ensures takes { OnOk result (Passes D.tape D.Tells HasListened desk.old desk.new) }
+        ensures takes { (now : ℕ) → IfOk result (λ more. Passes D.tape D.Tells (λ said.
+            Moves S.Stable now Taking (process_of self.old) [] said (process_of self.new) × HasRead read said more) desk.old desk.new) }
+        ensures breaks { OnErr result (Passes D.tape D.Tells (λ said. BreaksOff said self.old.waiting) desk.old desk.new) }
+        ensures stops { (now : ℕ) → OnErr result (Passes D.tape D.Tells (λ said.
+            StopsTaking S.Stable now (process_of self.old) [] said (life_of self.new.life).node) desk.old desk.new) }
+        ensures ends { IfErr result (HasEnded (life_of self.new.life).node) }
     {
         'lines: for _ in 0..MOST_IN_A_TURN {
             if !self.take_next_line(alloc, desk)? {
@@ -53,12 +56,13 @@ impl<S: Stable + Drop> Server<S> {
     // What a client did: whether any did anything.
     fn take_next_line<D: Desk>(&mut self, alloc: Global, desk: &mut D) -> Result<bool, TurnFault>
         ensures serves { ServesClients S.Stable D.tape D.Tells (server_of self.old) desk.old (server_of self.new) desk.new }
-        ensures moves { (now : ℕ) → OnOk result (Passes D.tape D.Tells (λ said. Moves S.Stable now (process_of self.old) [] said (process_of self.new))
+        ensures takes { (now : ℕ) → IfOk result (λ has_come. Passes D.tape D.Tells (λ said.
+            Moves S.Stable now Taking (process_of self.old) [] said (process_of self.new) × IsReading read said has_come)
             desk.old desk.new) }
-        ensures quiet { IfOk result (λ more. more ≡ false → Passes D.tape D.Tells (λ said. Contains said NothingHeard)
-            desk.old desk.new) }
-        ensures takes { IfOk result (λ came. came ≡ true → Passes D.tape D.Tells (λ said. count_by is_heard said ≡ 1)
-            desk.old desk.new) }
+        ensures breaks { OnErr result (Passes D.tape D.Tells (λ said. BreaksOff said self.old.waiting) desk.old desk.new) }
+        ensures stops { (now : ℕ) → OnErr result (Passes D.tape D.Tells (λ said.
+            StopsTaking S.Stable now (process_of self.old) [] said (life_of self.new.life).node) desk.old desk.new) }
+        ensures ends { IfErr result (HasEnded (life_of self.new.life).node) }
     {
         let came = desk.next(alloc, &self.waiting)?;
         let Some(what) = came else {
@@ -72,7 +76,9 @@ impl<S: Stable + Drop> Server<S> {
     fn hear(&mut self, alloc: Global, what: Came) -> Result<(), TurnFault>
         ensures serves { Serves S.Stable (server_of self.old) [] (heard what ∷ []) (server_of self.new) }
         ensures moves { (now : ℕ) → HasRoom self.old.waiting (heard what)
-            → OnOk result (Moves S.Stable now (process_of self.old) [] (heard what ∷ []) (process_of self.new)) }
+            → OnOk result (Moves S.Stable now Taking (process_of self.old) [] (heard what ∷ []) (process_of self.new)) }
+        ensures near { OnErr result (IsNear S.Stable 1 (life_of self.old.life).node (life_of self.new.life).node) }
+        ensures ends { IfErr result (HasEnded (life_of self.new.life).node) }
     {
         match what {
             Came::Line { connection, text } => self.take_line(alloc, connection, text.as_slice()),
@@ -86,6 +92,8 @@ impl<S: Stable + Drop> Server<S> {
     // The connection wrote this line.
     fn take_line(&mut self, alloc: Global, connection: u64, text: &[u8]) -> Result<(), TurnFault>
         ensures serves { Serves S.Stable (server_of self.old) [] (Heard connection text.now ∷ []) (server_of self.new) }
+        ensures near { OnErr result (IsNear S.Stable 1 (life_of self.old.life).node (life_of self.new.life).node) }
+        ensures ends { IfErr result (HasEnded (life_of self.new.life).node) }
         ensures taken { OnOk result (IsLineTaken S.Stable (process_of self.old) connection text.now (process_of self.new)) }
     {
         match read_line(alloc, text) {
@@ -104,6 +112,8 @@ impl<S: Stable + Drop> Server<S> {
     ) -> Result<(), TurnFault>
         requires { IsClientLine text.now asked }
         ensures serves { Serves S.Stable (server_of self.old) [] (Heard connection text.now ∷ []) (server_of self.new) }
+        ensures near { OnErr result (IsNear S.Stable 1 (life_of self.old.life).node (life_of self.new.life).node) }
+        ensures ends { IfErr result (HasEnded (life_of self.new.life).node) }
         ensures taken { OnOk result (IsLineTaken S.Stable (process_of self.old) connection text.now (process_of self.new)) }
     {
         match asked {
@@ -131,6 +141,8 @@ impl<S: Stable + Drop> Server<S> {
     ) -> Result<(), TurnFault>
         requires { IsClientFault text.now cause }
         ensures serves { Serves S.Stable (server_of self.old) [] (Heard connection text.now ∷ []) (server_of self.new) }
+        ensures near { OnErr result (IsNear S.Stable 1 (life_of self.old.life).node (life_of self.new.life).node) }
+        ensures ends { IfErr result (HasEnded (life_of self.new.life).node) }
         ensures taken { OnOk result (IsLineTaken S.Stable (process_of self.old) connection text.now (process_of self.new)) }
     {
         match cause {
@@ -153,6 +165,8 @@ impl<S: Stable + Drop> Server<S> {
     ) -> Result<(), TurnFault>
         requires { IsPlain (λ n. n ≡ (life_of self.old.life).node) (Heard connection text.now ∷ []) connection (answer_line answer.now) }
         ensures serves { Serves S.Stable (server_of self.old) [] (Heard connection text.now ∷ []) (server_of self.new) }
+        ensures life { self.new.life ≡ self.old.life }
+        ensures memory { IfErr result (λ fault. fault ≡ turn_fault.Memory) }
         ensures owes { OnOk result ((line : Vec ℕ) × (line.items ≡ answer_line answer.now)
             × (process_of self.new ≡ record (process_of self.old) { waiting = owing connection line self.old.waiting })) }
     {
@@ -171,6 +185,8 @@ impl<S: Stable + Drop> Server<S> {
     ) -> Result<(), TurnFault>
         requires { IsClientLine text.now (client_line.Submit submission) }
         ensures serves { Serves S.Stable (server_of self.old) [] (Heard connection text.now ∷ []) (server_of self.new) }
+        ensures near { OnErr result (IsNear S.Stable 1 (life_of self.old.life).node (life_of self.new.life).node) }
+        ensures ends { IfErr result (HasEnded (life_of self.new.life).node) }
         ensures taken { OnOk result (IsLineTaken S.Stable (process_of self.old) connection text.now (process_of self.new)) }
     {
         let client = submission.client;
@@ -210,6 +226,8 @@ impl<S: Stable + Drop> Server<S> {
     ) -> Result<(), TurnFault>
         requires { IsClientLine text.now (client_line.Query query position) }
         ensures serves { Serves S.Stable (server_of self.old) [] (Heard connection text.now ∷ []) (server_of self.new) }
+        ensures near { OnErr result (IsNear S.Stable 1 (life_of self.old.life).node (life_of self.new.life).node) }
+        ensures ends { IfErr result (HasEnded (life_of self.new.life).node) }
         ensures taken { OnOk result (IsLineTaken S.Stable (process_of self.old) connection text.now (process_of self.new)) }
     {
         let from = least_position(position);

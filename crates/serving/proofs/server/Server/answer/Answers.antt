@@ -12,8 +12,10 @@ use Rattle.serving.proofs.Lists.{last_is_pushed}
 use Rattle.serving.proofs.Passing.{clients_quiet}
 use Rattle.serving.proofs.Submitted.{asked_is_last}
 use Rattle.serving.proofs.Ripening.{node_asked, none_ripe_held, none_ripe_same}
-use Rattle.serving.proofs.Staying.{stays_on}
-use Rattle.serving.proofs.MovesOut.{never_before, on_answer}
+use Rattle.serving.proofs.Ending.{asked_never_refused}
+use Rattle.serving.proofs.MovesOut.{never_before, passes_answer}
+use Rattle.serving.proofs.Passing.{passes_none}
+use Rattle.serving.proofs.Breaking.{on_err}
 use Rattle.serving.proofs.server.Server.answer.Goals as goal
 
 pub returns-in_err-hold-clause-serves : goal.returns-in_err-hold-clause-serves
@@ -35,6 +37,15 @@ pub returns-in-Some-clause-serves : goal.returns-in-Some-clause-serves
 returns-in-Some-clause-serves g c =
     clients_quiet g.S.Stable g.D.Desk.tape g.D.Desk.Tells _ _ c.args.desk.now (serves_asked_only g.S.Stable (server_of c.args.self.now) (life_of c.ask.new.self) c.args.question c.ask.result c.ask.ensures)
 
+pub returns-in_err-tell_answer-in-Some-last-clause-serves : goal.returns-in_err-tell_answer-in-Some-last-clause-serves
+returns-in_err-tell_answer-in-Some-last-clause-serves g c =
+    clients_answering g.S.Stable g.D.Desk.tape g.D.Desk.Tells (server_of c.args.self.now) (life_of c.ask.new.self) (life_of c.hand_out-told.new.self) c.args.question c.ask.result
+    c.position.result c.deref.result.now c.in-Some-last.answered.now c.args.desk.now c.tell_answer.new.desk c.ask.ensures
+    (subst (λ (o : Option NodeFault). IsRefusal c.ask.result (Ok o)) c.in_default.is c.in_ok-fault.ensures) c.hand_out-told.ensures.left
+    (c.deref.ensures.value ∙ ap (λ (t : ToldLists). t.answers) c.hand_out-told.ensures.told)
+    (λ front x pushed. last_is_pushed c.deref.result.now front x c.in-Some-last.answered.now (sym c.in-Some-last.ensures.value) pushed)
+    c.position.ensures c.if-position-question.false c.tell_answer.ensures.only
+
 pub returns-in-Some-last-clause-serves : goal.returns-in-Some-last-clause-serves
 returns-in-Some-last-clause-serves g c =
     clients_answering g.S.Stable g.D.Desk.tape g.D.Desk.Tells (server_of c.args.self.now) (life_of c.ask.new.self) (life_of c.hand_out-told.new.self) c.args.question c.ask.result
@@ -51,10 +62,9 @@ returns-clause-serves g c =
 
 pub returns-in-Some-last-clause-node : goal.returns-in-Some-last-clause-node
 returns-in-Some-last-clause-node g c =
-    stays_on c.tell_answer.result
-    (node_asked g.S.Stable (life_of c.args.self.now.life) (life_of c.ask.new.self) (life_of c.hand_out-told.new.self) c.args.question.query
+    node_asked g.S.Stable (life_of c.args.self.now.life) (life_of c.ask.new.self) (life_of c.hand_out-told.new.self) c.args.question.query
     c.ask.result c.ask.ensures (subst (λ (o : Option NodeFault). IsRefusal c.ask.result (Ok o)) c.in_default.is c.in_ok-fault.ensures)
-    c.hand_out-told.ensures.left)
+    c.hand_out-told.ensures.left
 
 pub returns-clause-node : goal.returns-clause-node
 returns-clause-node g c =
@@ -69,12 +79,11 @@ returns-then-position-question-clause-ripe g c =
 
 pub returns-in-Some-last-clause-ripe : goal.returns-in-Some-last-clause-ripe
 returns-in-Some-last-clause-ripe g c =
-    stays_on c.tell_answer.result
-    (none_ripe_same (life_of c.args.self.now.life).node (life_of c.hand_out-told.new.self).node c.args.self.now.waiting.questions
+    none_ripe_same (life_of c.args.self.now.life).node (life_of c.hand_out-told.new.self).node c.args.self.now.waiting.questions
     c.args.self.now.waiting.questions
     (node_asked g.S.Stable (life_of c.args.self.now.life) (life_of c.ask.new.self) (life_of c.hand_out-told.new.self) c.args.question.query
     c.ask.result c.ask.ensures (subst (λ (o : Option NodeFault). IsRefusal c.ask.result (Ok o)) c.in_default.is c.in_ok-fault.ensures)
-    c.hand_out-told.ensures.left) refl)
+    c.hand_out-told.ensures.left) refl
 
 pub returns-clause-ripe : goal.returns-clause-ripe
 returns-clause-ripe g c =
@@ -90,14 +99,16 @@ returns-then-position-question-clause-answers g c = λ position at behind.
     c.if-position-question.true behind)
 
 pub returns-in-Some-last-clause-answers : goal.returns-in-Some-last-clause-answers
-returns-in-Some-last-clause-answers g c = λ position at behind.
-    on_answer g.S.Stable g.D.Desk.tape g.D.Desk.Tells c.tell_answer.result (life_of c.args.self.now.life) (life_of c.ask.new.self)
-    (life_of c.hand_out-told.new.self) c.args.question c.ask.result c.deref.result.now c.in-Some-last.answered.now c.args.desk.now
-    c.tell_answer.new.desk c.ask.ensures
-    (subst (λ (o : Option NodeFault). IsRefusal c.ask.result (Ok o)) c.in_default.is c.in_ok-fault.ensures) c.hand_out-told.ensures.left
-    (c.deref.ensures.value ∙ ap (λ (t : ToldLists). t.answers) c.hand_out-told.ensures.told)
-    (λ front x pushed. last_is_pushed c.deref.result.now front x c.in-Some-last.answered.now (sym c.in-Some-last.ensures.value) pushed)
-    c.tell_answer.ensures.once
+returns-in-Some-last-clause-answers g c = λ position at behind. (
+  refl,
+  passes_answer g.S.Stable g.D.Desk.tape g.D.Desk.Tells (life_of c.args.self.now.life) (life_of c.ask.new.self)
+      (life_of c.hand_out-told.new.self) c.args.question c.ask.result c.deref.result.now c.in-Some-last.answered.now c.args.desk.now
+      c.tell_answer.new.desk c.ask.ensures
+      (subst (λ (o : Option NodeFault). IsRefusal c.ask.result (Ok o)) c.in_default.is c.in_ok-fault.ensures) c.hand_out-told.ensures.left
+      (c.deref.ensures.value ∙ ap (λ (t : ToldLists). t.answers) c.hand_out-told.ensures.told)
+      (λ front x pushed. last_is_pushed c.deref.result.now front x c.in-Some-last.answered.now (sym c.in-Some-last.ensures.value) pushed)
+      c.in_ok-tell_answer-in-Some-last.ensures.once,
+)
 
 pub returns-clause-answers : goal.returns-clause-answers
 returns-clause-answers g c =
@@ -107,7 +118,7 @@ returns-clause-answers g c =
     (c.deref.ensures.value ∙ ap (λ (t : ToldLists). t.answers) c.hand_out-told.ensures.told) (sym c.in-None.ensures.value))
 
 pub returns-then-position-question-clause-holds_back : goal.returns-then-position-question-clause-holds_back
-returns-then-position-question-clause-holds_back g c = λ position at before. (refl, refl, c.in_ok-hold.ensures.added)
+returns-then-position-question-clause-holds_back g c = λ position at before. (refl, refl, (refl, c.in_ok-hold.ensures.added))
 
 pub returns-in_err-fault-clause-holds_back : goal.returns-in_err-fault-clause-holds_back
 returns-in_err-fault-clause-holds_back g c = λ position at before.
@@ -116,6 +127,11 @@ returns-in_err-fault-clause-holds_back g c = λ position at before.
 
 pub returns-in-Some-clause-holds_back : goal.returns-in-Some-clause-holds_back
 returns-in-Some-clause-holds_back g c = λ position at before.
+    absurd (never_before (life_of c.args.self.now.life).node position c.position.result c.args.question.from at
+    c.position.ensures before c.if-position-question.false)
+
+pub returns-in_err-tell_answer-in-Some-last-clause-holds_back : goal.returns-in_err-tell_answer-in-Some-last-clause-holds_back
+returns-in_err-tell_answer-in-Some-last-clause-holds_back g c = λ position at before.
     absurd (never_before (life_of c.args.self.now.life).node position c.position.result c.args.question.from at
     c.position.ensures before c.if-position-question.false)
 
@@ -128,3 +144,26 @@ pub returns-clause-holds_back : goal.returns-clause-holds_back
 returns-clause-holds_back g c = λ position at before.
     absurd (never_before (life_of c.args.self.now.life).node position c.position.result c.args.question.from at
     c.position.ensures before c.if-position-question.false)
+
+pub returns-in-Some-clause-ends : goal.returns-in-Some-clause-ends
+returns-in-Some-clause-ends g c =
+    absurd (asked_never_refused g.S.Stable (life_of c.args.self.now.life) (life_of c.ask.new.self) c.args.question.query c.ask.result
+    c.in-Some.fault c.ask.ensures (subst (λ (o : Option NodeFault). IsRefusal c.ask.result (Ok o)) c.in-Some.is c.in_ok-fault.ensures))
+
+pub returns-in_err-hold-clause-breaks : goal.returns-in_err-hold-clause-breaks
+returns-in_err-hold-clause-breaks g c =
+    on_err _ (
+    passes_none g.D.Desk.tape g.D.Desk.Tells c.args.desk.now)
+
+pub returns-in_err-fault-clause-breaks : goal.returns-in_err-fault-clause-breaks
+returns-in_err-fault-clause-breaks g c =
+    on_err _ (
+    passes_none g.D.Desk.tape g.D.Desk.Tells c.args.desk.now)
+
+pub returns-in-Some-clause-breaks : goal.returns-in-Some-clause-breaks
+returns-in-Some-clause-breaks g c = passes_none g.D.Desk.tape g.D.Desk.Tells c.args.desk.now
+
+pub returns-in_err-tell_answer-in-Some-last-clause-breaks : goal.returns-in_err-tell_answer-in-Some-last-clause-breaks
+returns-in_err-tell_answer-in-Some-last-clause-breaks g c =
+    on_err _ (
+    c.in_err-tell_answer-in-Some-last.ensures.breaks)

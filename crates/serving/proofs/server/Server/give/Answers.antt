@@ -3,6 +3,9 @@ use Rattle.serving.specs.Seen.{server_of}
 use Rattle.serving.proofs.Coming.{serves_given}
 use Rattle.life.specs.Seen.{life_of}
 use Rattle.serving.proofs.Givings.{was_given}
+use Rattle.serving.proofs.Breaking.{on_err}
+use Rattle.serving.proofs.Stopping.{near_took}
+use Rattle.world_model.specs.Lives.{Took}
 use Rattle.serving.proofs.server.Server.give.Goals as goal
 
 pub returns-in_err-refusal-clause-serves : goal.returns-in_err-refusal-clause-serves
@@ -17,3 +20,7 @@ pub returns-clause-gives : goal.returns-clause-gives
 returns-clause-gives g c =
     was_given g.S.Stable (life_of c.args.self.now.life) (life_of c.take.new.self) c.args.input c.take.result c.in_ok-refusal.field-0
     c.take.ensures c.in_ok-refusal.ensures
+
+pub returns-in_err-refusal-clause-near : goal.returns-in_err-refusal-clause-near
+returns-in_err-refusal-clause-near g c =
+    on_err _ (near_took g.S.Stable (life_of c.args.self.now.life) (life_of c.take.new.self) c.args.input c.take.result c.take.ensures)

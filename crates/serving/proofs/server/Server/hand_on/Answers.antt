@@ -9,6 +9,8 @@ use Rattle.serving.proofs.Passing.{nodes_none, nodes_then, only_none}
 use Rattle.serving.proofs.HandingOn.{rightly_from}
 use Rattle.serving.proofs.Requested.{none_due_first, none_due_more}
 use Rattle.serving.proofs.Moving.{nodes_moves_none, nodes_moves_then}
+use Rattle.serving.proofs.Breaking.{on_err}
+use Rattle.serving.proofs.Stopping.{nodes_hand_on}
 use Rattle.serving.proofs.server.Server.hand_on.Goals as goal
 
 pub packets-init : goal.packets-init
@@ -73,3 +75,11 @@ returns-then-not-branch-clause-moves g c = λ held none_at_full. nodes_moves_the
     (process_of c.hand_on_next.new.self) c.args.network.now c.packets.network c.hand_on_next.new.network (c.packets.invariant.9 held none_at_full)
     (c.in_ok-hand_on_next.ensures.moves (ap (λ l. (life_of l).held) c.packets.invariant.2 ∙ held)
     (λ full. c.packets.invariant.5 (none_at_full (subst (λ l. IsFull (life_of l).node) c.packets.invariant.2 full))))
+
+pub returns-in_err-hand_on_next-clause-stops : goal.returns-in_err-hand_on_next-clause-stops
+returns-in_err-hand_on_next-clause-stops g c = λ held none_at_full.
+    on_err _ (nodes_hand_on g.S.Stable c.args.now g.N.Network.tape g.N.Network.Tells (process_of c.args.self.now) (process_of c.packets.self) _ _ _ _
+    (c.packets.invariant.9 held none_at_full)
+    (c.in_err-hand_on_next.ensures.stops (ap (λ l. (life_of l).held) c.packets.invariant.2 ∙ held)
+    (λ full. c.packets.invariant.5 (none_at_full (subst (λ l. IsFull (life_of l).node) c.packets.invariant.2 full))))
+    (ap (λ l. (life_of l).node) c.hand_on_next.ensures.life))

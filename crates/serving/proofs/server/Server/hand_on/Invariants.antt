@@ -1,7 +1,7 @@
 use Rattle.std.proofs.Common.{◌≡◌, [], take}
 use Rattle.serving.specs.Outgoing.{IsRightlySent}
 use Rattle.serving.specs.Requesting.{NoneIsDue, as_new_all}
-use Rattle.serving.specs.Moves.{Moves}
+use Rattle.serving.specs.Moves.{Moves, Telling}
 use Rattle.life.specs.Seen.{life_of}
 use Rattle.life.specs.Telling.{nothing}
 use Rattle.serving.specs.Resting.{IsFull}
@@ -24,4 +24,4 @@ invariant-packets g l =
     × NoneIsDue l.now (take l.counter l.self.requests)
     × ((life_of l.initial.self.life).held ≡ nothing → (IsFull (life_of l.initial.self.life).node → l.initial.self.requests ≡ [])
     → Passes g.N.Network.tape g.N.Network.Tells (λ sent.
-    Moves g.S.Stable l.now (process_of l.initial.self) sent [] (process_of l.self)) l.initial.network l.network)
+    Moves g.S.Stable l.now Telling (process_of l.initial.self) sent [] (process_of l.self)) l.initial.network l.network)

@@ -10,6 +10,8 @@ use Rattle.serving.specs.Requesting.{RequestState, as_new_all}
 use Rattle.std.proofs.Common.{ap, List}
 use Rattle.serving.proofs.Moving.{moves_same, nodes_moves_quiet}
 use Rattle.serving.proofs.MovesOut.{moves_handing_on}
+use Rattle.serving.proofs.Breaking.{on_err}
+use Rattle.serving.proofs.Stopping.{hands_on_some}
 use Rattle.serving.proofs.server.Server.hand_on_next.Goals as goal
 
 pub returns-in_default-clause-serves : goal.returns-in_default-clause-serves
@@ -70,3 +72,9 @@ returns-clause-moves g c = λ held none_at_full.
     moves_handing_on g.S.Stable c.args.now g.N.Network.tape g.N.Network.Tells (process_of c.args.self.now) c.next_due.new.self c.in-Some.place
     c.packet.result.now c.args.network.now c.send_packet.new.network c.in-Some.ensures.handed_on c.packet.ensures.packet
     c.packet.ensures.marked held none_at_full c.in_ok-send_packet.ensures.all
+
+pub returns-in_err-send_packet-clause-stops : goal.returns-in_err-send_packet-clause-stops
+returns-in_err-send_packet-clause-stops g c = λ held none_at_full.
+    on_err _ (hands_on_some g.S.Stable c.args.now g.N.Network.tape g.N.Network.Tells (process_of c.args.self.now) c.next_due.new.self c.in-Some.place
+    c.packet.result.now c.args.network.now c.send_packet.new.network c.in-Some.ensures.handed_on c.packet.ensures.packet held none_at_full
+    c.in_err-send_packet.ensures.some)

@@ -3,7 +3,7 @@ use Rattle.serving.specs.Seen.{process_of, server_of}
 use Rattle.serving.specs.Serving.{Serves}
 use Rattle.serving.specs.Tapes.{Heard, Went, heard}
 use Rattle.serving.specs.declared.desk.Came.{Came}
-use Rattle.serving.specs.Moves.{Moves}
+use Rattle.serving.specs.Moves.{Moves, Taking}
 use Rattle.serving.specs.Waitings.{WaitingState}
 use Rattle.serving.specs.Owing.{HasRoom}
 use Rattle.serving.proofs.Coming.{serves_gone}
@@ -28,9 +28,9 @@ returns-in-Gone-clause-serves g c =
 pub returns-in-Line-clause-moves : goal.returns-in-Line-clause-moves
 returns-in-Line-clause-moves g c =
     λ now room. subst (λ (w : Came). OnOk c.take_line.result
-    (Moves g.S.Stable now (process_of c.args.self.now) [] (heard w ∷ []) (process_of c.take_line.new.self))) (sym c.in-Line.is)
+    (Moves g.S.Stable now Taking (process_of c.args.self.now) [] (heard w ∷ []) (process_of c.take_line.new.self))) (sym c.in-Line.is)
     (subst (λ (b : List ℕ). OnOk c.take_line.result
-    (Moves g.S.Stable now (process_of c.args.self.now) [] (Heard c.in-Line.connection b ∷ []) (process_of c.take_line.new.self)))
+    (Moves g.S.Stable now Taking (process_of c.args.self.now) [] (Heard c.in-Line.connection b ∷ []) (process_of c.take_line.new.self)))
     c.as_slice.ensures.value
     (on_ok_so c.take_line.result
     (line_moves g.S.Stable now (process_of c.args.self.now) (process_of c.take_line.new.self) c.in-Line.connection c.as_slice.result.now
@@ -40,7 +40,7 @@ returns-in-Line-clause-moves g c =
 
 pub returns-in-Gone-clause-moves : goal.returns-in-Gone-clause-moves
 returns-in-Gone-clause-moves g c =
-    λ now room. subst (λ (w : Came). Moves g.S.Stable now (process_of c.args.self.now) [] (heard w ∷ [])
+    λ now room. subst (λ (w : Came). Moves g.S.Stable now Taking (process_of c.args.self.now) [] (heard w ∷ [])
     (record (process_of c.args.self.now) { waiting = c.forget.new.self })) (sym c.in-Gone.is)
     (gone_moves g.S.Stable now (process_of c.args.self.now) (record (process_of c.args.self.now) { waiting = c.forget.new.self })
     c.in-Gone.connection

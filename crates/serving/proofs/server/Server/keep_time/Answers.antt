@@ -5,6 +5,7 @@ use Rattle.serving.specs.Processes.{ProcessState}
 use Rattle.serving.specs.Seen.{process_of}
 use Rattle.serving.proofs.Keeping.{keeps_time_so}
 use Rattle.serving.proofs.Packets.{on_ok_so}
+use Rattle.serving.proofs.Stopping.{near_tail, near_where}
 use Rattle.serving.proofs.server.Server.keep_time.Goals as goal
 
 pub returns-clause-serves : goal.returns-clause-serves
@@ -23,3 +24,9 @@ returns-clause-others g c =
     c.tick_if_due.ensures.others
     ∙ ap (λ (p : ProcessState _). record p { life = life_of c.tick_if_due.new.self.life; timing = c.tick_if_due.new.self.timing })
     c.campaign_if_due.ensures.others
+
+pub returns-clause-near : goal.returns-clause-near
+returns-clause-near g c =
+    near_tail g.S.Stable c.tick_if_due.result _ _ _
+    (near_where g.S.Stable _ _ _ _ _ (life_of c.args.self.now.life) (life_of c.campaign_if_due.new.self.life)
+    c.in_ok-campaign_if_due.ensures.campaigns) c.tick_if_due.ensures.near

@@ -4,6 +4,16 @@ use Rattle.serving.specs.Waitings.{WaitingState}
 use Rattle.serving.proofs.Leading.{born_serves}
 use Rattle.serving.proofs.server.Server.new.Goals as goal
 
+pub returns-clause-process : goal.returns-clause-process
+returns-clause-process g c = λ i. record {
+  own = c.args.own;
+  nodes = c.args.nodes;
+  life = life_of c.args.life;
+  waiting = c.none.ensures i;
+  requests = c.none-2.ensures i;
+  timing = c.new.ensures i;
+}
+
 pub returns-clause-born : goal.returns-clause-born
 returns-clause-born g c = λ id count storage born.
     born_serves g.S.Stable id count storage

@@ -4,6 +4,9 @@ use Rattle.serving.specs.Outgoing.AreFramesOf.{none}
 use Rattle.serving.proofs.Sending.{all_none, frames_more, own_seen_more}
 use Rattle.serving.proofs.Lists.{frame_of_one}
 use Rattle.serving.proofs.Passing.{only_none, only_then, only_weaker}
+use Rattle.serving.proofs.Breaking.{on_err}
+use Rattle.serving.proofs.Stopping.{passes_stopped, so_many_frames}
+use Rattle.std.proofs.Common.{take}
 use Rattle.serving.proofs.server.Server.send_frames.Goals as goal
 
 pub frames-init : goal.frames-init
@@ -43,3 +46,13 @@ frames-preserved g c = (
   c.note_sent.ensures.node.0 ∙ c.frames.invariant.4,
   c.note_sent.ensures.node.1 ∙ c.frames.invariant.5,
 )
+
+pub returns-in_err-note_sent-clause-some : goal.returns-in_err-note_sent-clause-some
+returns-in_err-note_sent-clause-some g c =
+    on_err _ (so_many_frames g.N.Network.tape g.N.Network.Tells c.args.frames.now c.frames.frame-index c.args.network.now c.frames.network c.frames.invariant.2)
+
+pub returns-in_err-send_frame-clause-some : goal.returns-in_err-send_frame-clause-some
+returns-in_err-send_frame-clause-some g c =
+    on_err _ (so_many_frames g.N.Network.tape g.N.Network.Tells c.args.frames.now c.frames.frame-index c.args.network.now c.send_frame.new.network
+    (passes_stopped g.N.Network.tape g.N.Network.Tells (AreFramesOf (take c.frames.frame-index c.args.frames.now)) _ _ _ c.frames.invariant.2
+    c.in_err-send_frame.ensures.nothing))

@@ -17,6 +17,8 @@ use Rattle.serving.proofs.Coming.{just_asked, just_handed_on, just_written, requ
 use Rattle.serving.proofs.Holding.{holds_claim, holds_due, holds_same}
 use Rattle.serving.proofs.Submitted.{refuses_so}
 use Rattle.serving.proofs.Hearing.{line_refused, line_submitted}
+use Rattle.serving.proofs.Breaking.{on_err}
+use Rattle.serving.proofs.Stopping.{near_took}
 use Rattle.serving.proofs.server.Server.submit.Goals as goal
 
 pub returns-in_err-fault-clause-serves : goal.returns-in_err-fault-clause-serves
@@ -101,3 +103,28 @@ returns-in_ok-add-in-None-clause-taken g c =
     (subst (λ (i : Input). Does g.S.Stable (life_of c.args.self.now.life) (Took i) c.take-outcome.result (life_of c.take-outcome.new.self)) c.input_of.ensures c.take-outcome.ensures)
     (subst (λ (o : Option NodeFault). IsRefusal c.take-outcome.result (Ok o)) c.in-None.is c.in_ok-fault.ensures)
     c.in_ok-add_claim-in-None.ensures.added c.in_ok-add-in-None.ensures.added refl
+
+pub returns-in_err-fault-clause-near : goal.returns-in_err-fault-clause-near
+returns-in_err-fault-clause-near g c =
+    on_err _ (near_took g.S.Stable (life_of c.args.self.now.life) (life_of c.take-outcome.new.self) c.input_of.result
+    c.take-outcome.result c.take-outcome.ensures)
+
+pub returns-in_err-line-in-Some-clause-near : goal.returns-in_err-line-in-Some-clause-near
+returns-in_err-line-in-Some-clause-near g c =
+    on_err _ (near_took g.S.Stable (life_of c.args.self.now.life) (life_of c.take-outcome.new.self) c.input_of.result
+    c.take-outcome.result c.take-outcome.ensures)
+
+pub returns-in_err-add_due-in-Some-clause-near : goal.returns-in_err-add_due-in-Some-clause-near
+returns-in_err-add_due-in-Some-clause-near g c =
+    on_err _ (near_took g.S.Stable (life_of c.args.self.now.life) (life_of c.take-outcome.new.self) c.input_of.result
+    c.take-outcome.result c.take-outcome.ensures)
+
+pub returns-in_err-add_claim-in-None-clause-near : goal.returns-in_err-add_claim-in-None-clause-near
+returns-in_err-add_claim-in-None-clause-near g c =
+    on_err _ (near_took g.S.Stable (life_of c.args.self.now.life) (life_of c.take-outcome.new.self) c.input_of.result
+    c.take-outcome.result c.take-outcome.ensures)
+
+pub returns-in_err-add-in-None-clause-near : goal.returns-in_err-add-in-None-clause-near
+returns-in_err-add-in-None-clause-near g c =
+    on_err _ (near_took g.S.Stable (life_of c.args.self.now.life) (life_of c.take-outcome.new.self) c.input_of.result
+    c.take-outcome.result c.take-outcome.ensures)

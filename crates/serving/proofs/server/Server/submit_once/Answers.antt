@@ -9,6 +9,8 @@ use Rattle.serving.specs.Turns.{handed_on}
 use Rattle.serving.proofs.Coming.{serves_handed_on, serves_passing_over}
 use Rattle.serving.proofs.Givings.{was_given}
 use Rattle.serving.proofs.Packets.{has_last, not_counted}
+use Rattle.serving.proofs.Breaking.{on_err}
+use Rattle.serving.proofs.Stopping.{near_took}
 use Rattle.serving.proofs.server.Server.submit_once.Goals as goal
 
 pub returns-then-has_counted-clause-serves : goal.returns-then-has_counted-clause-serves
@@ -50,3 +52,7 @@ returns-clause-taken g c =
           (subst (λ (i : Input). Does g.S.Stable (life_of c.args.self.now.life) (Took i) c.take.result (life_of c.take.new.self))
           c.input_of.ensures c.take.ensures) c.in_ok-refusal.ensures,
     )
+
+pub returns-in_err-refusal-clause-near : goal.returns-in_err-refusal-clause-near
+returns-in_err-refusal-clause-near g c =
+    on_err _ (near_took g.S.Stable (life_of c.args.self.now.life) (life_of c.take.new.self) c.input_of.result c.take.result c.take.ensures)

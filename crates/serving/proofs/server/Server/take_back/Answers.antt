@@ -6,6 +6,8 @@ use Rattle.serving.specs.Seen.{server_of}
 use Rattle.serving.proofs.Holding.{holds_same}
 use Rattle.serving.proofs.Leading.{serves_taking_back}
 use Rattle.serving.proofs.Arriving.{refused_back, taken_back}
+use Rattle.serving.proofs.Breaking.{on_err}
+use Rattle.serving.proofs.Stopping.{near_back}
 use Rattle.serving.proofs.server.Server.take_back.Goals as goal
 
 pub returns-in-Ok-clause-serves : goal.returns-in-Ok-clause-serves
@@ -35,3 +37,9 @@ returns-in_ok-refusal-in-Err-clause-takes g c =
     (subst (λ (r : Result Bool LifeFault). TakesBack g.S.Stable (life_of c.args.self.now.life) r (life_of c.take_back.new.self)) c.in-Err.is
     c.take_back.ensures)
     c.in_ok-refusal-in-Err.ensures
+
+pub returns-in_err-refusal-in-Err-clause-near : goal.returns-in_err-refusal-in-Err-clause-near
+returns-in_err-refusal-in-Err-clause-near g c =
+    on_err _ (near_back g.S.Stable (life_of c.args.self.now.life) (life_of c.take_back.new.self) c.in-Err.fault
+    (subst (λ (r : Result Bool LifeFault). TakesBack g.S.Stable (life_of c.args.self.now.life) r (life_of c.take_back.new.self)) c.in-Err.is
+    c.take_back.ensures))

@@ -1,6 +1,5 @@
-use Rattle.std.proofs.Common.{ℕ, [], ◌∷◌, ap, refl, subst, sym, ◌∙◌}
+use Rattle.std.proofs.Common.{ℕ, [], ◌∷◌, ap, refl, subst}
 use Rattle.std.proofs.lemmas.List.Elements.{Contains-push}
-use Rattle.schedule.specs.Causes.{cause_code}
 use Rattle.schedule.specs.declared.replay_fault.ReplayCause.{ReplayCause}
 use Rattle.clients.specs.ClientLines.{IsClientFault}
 use Rattle.clients.specs.AnswerLines.{answer_line}
@@ -21,8 +20,9 @@ returns-in-World-clause-serves g c =
 
 pub owe-requires : goal.owe-requires
 owe-requires g c =
-    faulty c.args.text.now c.args.cause (Contains-push [] (Heard c.args.connection c.args.text.now)) c.requires
-    (ap (λ (n : ℕ). answer_line (answer.Fault n)) (c.code-code.ensures ∙ sym (ap cause_code c.in-Schedule.is)))
+    faulty c.args.text.now c.in-Schedule.found (Contains-push [] (Heard c.args.connection c.args.text.now))
+    (subst (λ (r : ReplayCause). IsClientFault c.args.text.now r) c.in-Schedule.is c.requires)
+    (ap (λ (n : ℕ). answer_line (answer.Fault n)) c.code-code.ensures)
 
 pub returns-in-Schedule-clause-taken : goal.returns-in-Schedule-clause-taken
 returns-in-Schedule-clause-taken g c =

@@ -22,12 +22,12 @@ pub returns-in_default-clause-taken : goal.returns-in_default-clause-taken
 returns-in_default-clause-taken g c =
     passed_over g.S.Stable c.args.line.now (life_of c.args.self.now.life)
     (subst (λ (o : Option Submission). MatchOption o (SubmitsNothing c.args.line.now)
-    (λ submission. IsClientLine c.args.line.now (client_line.Submit submission))) c.in_default.is c.in_ok-found.ensures)
+    (λ submission. IsClientLine c.args.line.now (client_line.Submit submission))) c.in_default.is c.in_ok-found.ensures.found)
 
 pub returns-clause-taken : goal.returns-clause-taken
 returns-clause-taken g c =
     on_ok_so c.submit_once.result
     (taken_over g.S.Stable c.args.line.now (life_of c.args.self.now.life) (life_of c.submit_once.new.self.life) c.in-Some.submission
     (subst (λ (o : Option Submission). MatchOption o (SubmitsNothing c.args.line.now)
-    (λ submission. IsClientLine c.args.line.now (client_line.Submit submission))) c.in-Some.is c.in_ok-found.ensures))
+    (λ submission. IsClientLine c.args.line.now (client_line.Submit submission))) c.in-Some.is c.in_ok-found.ensures.found))
     c.submit_once.ensures.taken

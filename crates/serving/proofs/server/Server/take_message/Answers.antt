@@ -7,6 +7,9 @@ use Rattle.serving.specs.Seen.{server_of}
 use Rattle.serving.specs.Packets.{IsMessageTaken}
 use Rattle.serving.proofs.Coming.{serves_message, serves_passing_over}
 use Rattle.serving.proofs.Givings.{was_given}
+use Rattle.serving.proofs.Breaking.{on_err}
+use Rattle.serving.proofs.Stopping.{near_took}
+use Rattle.world_model.specs.Lives.{Took}
 use Rattle.serving.proofs.server.Server.take_message.Goals as goal
 
 pub returns-in_err-refusal-in-Ok-clause-serves : goal.returns-in_err-refusal-in-Ok-clause-serves
@@ -33,3 +36,8 @@ returns-in_ok-refusal-in-Ok-clause-taken g c =
           c.in_ok-refusal-in-Ok.field-0 c.receive.ensures c.in_ok-refusal-in-Ok.ensures,
       c.see.ensures,
     )
+
+pub returns-in_err-refusal-in-Ok-clause-near : goal.returns-in_err-refusal-in-Ok-clause-near
+returns-in_err-refusal-in-Ok-clause-near g c =
+    on_err _ (near_took g.S.Stable (life_of c.args.self.now.life) (life_of c.receive.new.self) (input.Message c.in-Ok.envelope)
+    c.receive.result c.receive.ensures)

@@ -1,16 +1,18 @@
-use Rattle.std.proofs.Common.{refl, ℕ, List, [], ◌∷◌, Ok, ap, sym, ◌∙◌}
-use Rattle.serving.specs.Tapes.{is_arrival, Arrived, NothingCame, came_in}
-use Rattle.serving.proofs.Taking.{counts_one}
+use Rattle.std.proofs.Common.{ℕ, List, [], ◌∷◌, Ok, ap, sym, ◌∙◌}
+use Rattle.serving.specs.Tapes.{Arrived, NothingCame, came_in}
 use Rattle.serving.specs.Seen.{process_of, server_of}
 use Rattle.serving.specs.Outgoing.{IsArrival}
-use Rattle.serving.proofs.Arriving.{nodes_moves_polled, nodes_moves_polled_nothing}
-use Rattle.serving.proofs.Moving.{nodes_moves_quiet, nodes_moves_then}
-use Rattle.serving.proofs.Passing.{nodes_polled, nodes_polled_none, nodes_polled_nothing, nodes_quiet, nodes_then, only_one_as, passes_one}
+use Rattle.serving.proofs.Arriving.{nodes_reads, nodes_reads_nothing}
+use Rattle.serving.proofs.Passing.{nodes_poll_failed, nodes_polled, nodes_polled_nothing, nodes_quiet, nodes_then, only_one_as}
+use Rattle.serving.proofs.Breaking.{on_err}
+use Rattle.serving.proofs.Stopping.{near_more, near_same, nodes_stop_at, nodes_stop_own}
+use Rattle.serving.specs.Tapes.{PollFailed}
+use Rattle.std.proofs.Common.{arith, refl}
 use Rattle.serving.proofs.server.Server.take_next_frame.Goals as goal
 
 pub returns-in_err-came-clause-serves : goal.returns-in_err-came-clause-serves
 returns-in_err-came-clause-serves g c =
-    nodes_polled_none g.S.Stable g.N.Network.tape g.N.Network.Tells (server_of c.args.self.now) _ _ (came_in c.poll.result) (ap came_in c.in_err-came.was) c.poll.ensures.tape c.poll.ensures.told
+    nodes_poll_failed g.S.Stable g.N.Network.tape g.N.Network.Tells (server_of c.args.self.now) _ _ (came_in c.poll.result) (ap came_in c.in_err-came.was) c.poll.ensures.tape c.poll.ensures.told
 
 pub returns-in_default-clause-serves : goal.returns-in_default-clause-serves
 returns-in_default-clause-serves g c =
@@ -47,30 +49,35 @@ returns-clause-comes g c =
     (ap came_in (c.in_ok-came.was ∙ ap Ok c.in-Some.is) ∙ ap (λ (b : List ℕ). Arrived b ∷ []) (sym c.as_slice.ensures.value))
     c.poll.ensures.tape c.poll.ensures.told tt
 
-pub returns-in_default-clause-moves : goal.returns-in_default-clause-moves
-returns-in_default-clause-moves g c =
-    nodes_moves_polled_nothing g.S.Stable c.args.now g.N.Network.tape g.N.Network.Tells (process_of c.args.self.now) c.args.network.now
+pub returns-in_default-clause-takes : goal.returns-in_default-clause-takes
+returns-in_default-clause-takes g c =
+    nodes_reads_nothing g.S.Stable c.args.now g.N.Network.tape g.N.Network.Tells (process_of c.args.self.now) c.args.network.now
     c.poll.new.self (came_in c.poll.result) (ap came_in (c.in_ok-came.was ∙ ap Ok c.in_default.is)) c.poll.ensures.tape
     c.poll.ensures.told
 
-pub returns-clause-moves : goal.returns-clause-moves
-returns-clause-moves g c =
-    nodes_moves_then g.S.Stable c.args.now g.N.Network.tape g.N.Network.Tells (process_of c.args.self.now)
-    (process_of c.take_frame.new.self) (process_of c.take_own.new.self) c.args.network.now c.poll.new.self c.poll.new.self
-    (nodes_moves_polled g.S.Stable c.args.now g.N.Network.tape g.N.Network.Tells (process_of c.args.self.now)
-    (process_of c.take_frame.new.self) c.args.network.now c.poll.new.self (came_in c.poll.result) c.as_slice.result.now
-    (ap came_in (c.in_ok-came.was ∙ ap Ok c.in-Some.is) ∙ ap (λ (b : List ℕ). Arrived b ∷ []) (sym c.as_slice.ensures.value))
-    c.poll.ensures.tape c.poll.ensures.told c.in_ok-take_frame.ensures.moves)
-    (nodes_moves_quiet g.S.Stable c.args.now g.N.Network.tape g.N.Network.Tells (process_of c.take_frame.new.self)
-    (process_of c.take_own.new.self) c.poll.new.self (c.in_ok-take_own.ensures.moves c.args.now))
-
-pub returns-in_default-clause-quiet : goal.returns-in_default-clause-quiet
-returns-in_default-clause-quiet g c =
-    λ is. passes_one g.N.Network.tape g.N.Network.Tells NothingCame c.args.network.now c.poll.new.self (came_in c.poll.result)
-    (ap came_in (c.in_ok-came.was ∙ ap Ok c.in_default.is)) c.poll.ensures.tape c.poll.ensures.told
-
 pub returns-clause-takes : goal.returns-clause-takes
 returns-clause-takes g c =
-    λ is. counts_one g.N.Network.tape g.N.Network.Tells is_arrival c.args.network.now c.poll.new.self (came_in c.poll.result) (Arrived c.as_slice.result.now)
-    (ap came_in (c.in_ok-came.was ∙ ap Ok c.in-Some.is) ∙ ap (λ (b : List ℕ). Arrived b ∷ []) (sym c.as_slice.ensures.value)) refl
-    c.poll.ensures.tape c.poll.ensures.told
+    nodes_reads g.S.Stable c.args.now g.N.Network.tape g.N.Network.Tells (process_of c.args.self.now)
+    (process_of c.take_frame.new.self) (process_of c.take_own.new.self) c.args.network.now c.poll.new.self (came_in c.poll.result)
+    c.as_slice.result.now
+    (ap came_in (c.in_ok-came.was ∙ ap Ok c.in-Some.is) ∙ ap (λ (b : List ℕ). Arrived b ∷ []) (sym c.as_slice.ensures.value))
+    c.poll.ensures.tape c.poll.ensures.told c.in_ok-take_frame.ensures.moves (c.in_ok-take_own.ensures.moves c.args.now)
+
+pub returns-in_err-came-clause-stops : goal.returns-in_err-came-clause-stops
+returns-in_err-came-clause-stops g c =
+    on_err _ (nodes_stop_at g.S.Stable c.args.now g.N.Network.tape g.N.Network.Tells (process_of c.args.self.now) c.args.network.now c.poll.new.self _
+    (came_in c.poll.result) PollFailed (ap came_in c.in_err-came.was) tt c.poll.ensures.tape c.poll.ensures.told (near_same g.S.Stable 2 _ _ refl))
+
+pub returns-in_err-take_frame-clause-stops : goal.returns-in_err-take_frame-clause-stops
+returns-in_err-take_frame-clause-stops g c =
+    on_err _ (nodes_stop_at g.S.Stable c.args.now g.N.Network.tape g.N.Network.Tells (process_of c.args.self.now) c.args.network.now c.poll.new.self _
+    (came_in c.poll.result) (Arrived c.as_slice.result.now)
+    (ap came_in (c.in_ok-came.was ∙ ap Ok c.in-Some.is) ∙ ap (λ (b : List ℕ). Arrived b ∷ []) (sym c.as_slice.ensures.value))
+    tt c.poll.ensures.tape c.poll.ensures.told (near_more g.S.Stable 1 2 _ _ (omega arith) c.in_err-take_frame.ensures.near))
+
+pub returns-in_err-take_own-clause-stops : goal.returns-in_err-take_own-clause-stops
+returns-in_err-take_own-clause-stops g c =
+    on_err _ (nodes_stop_own g.S.Stable c.args.now g.N.Network.tape g.N.Network.Tells (process_of c.args.self.now) (process_of c.take_frame.new.self) c.args.network.now
+    c.poll.new.self _ (came_in c.poll.result) c.as_slice.result.now
+    (ap came_in (c.in_ok-came.was ∙ ap Ok c.in-Some.is) ∙ ap (λ (b : List ℕ). Arrived b ∷ []) (sym c.as_slice.ensures.value))
+    c.poll.ensures.tape c.poll.ensures.told c.in_ok-take_frame.ensures.moves (c.in_err-take_own.ensures.stops c.args.now))

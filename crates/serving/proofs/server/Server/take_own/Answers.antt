@@ -4,6 +4,10 @@ use Rattle.serving.specs.Seen.{process_of, server_of}
 use Rattle.serving.proofs.Arriving.{none_own, own_moves}
 use Rattle.serving.proofs.Moving.{moves_same, moves_then}
 use Rattle.serving.proofs.Leading.{serves_none, serves_then}
+use Rattle.serving.proofs.Breaking.{on_err}
+use Rattle.serving.proofs.Stopping.{near_more, stops_behind}
+use Rattle.std.proofs.Common.{arith}
+use Rattle.serving.proofs.Stopping.{near_same}
 use Rattle.serving.proofs.server.Server.take_own.Goals as goal
 
 pub own-init : goal.own-init
@@ -38,3 +42,12 @@ pub returns-then-not-branch-clause-own : goal.returns-then-not-branch-clause-own
 returns-then-not-branch-clause-own g c =
     none_own g.S.Stable (life_of c.own.self.life) (life_of c.take_back.new.self.life) c.in_ok-take_back.field-0
     c.in_ok-take_back.ensures.takes c.if-not-branch.true
+
+pub returns-in_err-take_back-clause-stops : goal.returns-in_err-take_back-clause-stops
+returns-in_err-take_back-clause-stops g c = λ now.
+    on_err _ (stops_behind g.S.Stable now (process_of c.args.self.now) (process_of c.own.self) [] [] _ (c.own.invariant.1 now)
+    (near_more g.S.Stable 1 2 _ _ (omega arith) c.in_err-take_back.ensures.near))
+
+pub returns-clause-stops : goal.returns-clause-stops
+returns-clause-stops g c = λ now.
+    stops_behind g.S.Stable now (process_of c.args.self.now) (process_of c.own.self) [] [] _ (c.own.invariant.1 now) (near_same g.S.Stable 2 _ _ refl)

@@ -4,9 +4,11 @@ use Rattle.serving.specs.Resting.{IsCheckpointed, IsFull}
 use Rattle.serving.specs.Waitings.{WaitingState}
 use Rattle.serving.proofs.HandingOn.{rightly_behind}
 use Rattle.serving.specs.Seen.{process_of}
-use Rattle.serving.proofs.Moving.{both_moves_then, both_of_clients, both_of_nodes, clients_moves_quiet, clients_moves_then}
+use Rattle.serving.proofs.Moving.{both_quiet, both_sent, both_told}
 use Rattle.serving.proofs.Passing.{over_kept, over_sent, over_told}
 use Rattle.serving.proofs.Ripening.{none_ripe_same}
+use Rattle.serving.proofs.Breaking.{breaks_keeping, breaks_then, kept_answering, kept_both, kept_of_both, kept_quietly, on_err, telling_kept}
+use Rattle.serving.proofs.Stopping.{both_break_sent, both_break_still, both_break_told}
 use Rattle.serving.proofs.server.Server.tell.Goals as goal
 
 pub returns-in_err-has_answered-clause-serves : goal.returns-in_err-has_answered-clause-serves
@@ -81,22 +83,18 @@ returns-clause-moves g c =
     let desk = c.tell_due.new.desk in
     let held = c.in_ok-has_replied.ensures.held in
     let held_then = ap (λ l. (life_of l).held) c.turn_away.ensures.life ∙ c.in_ok-has_answered.ensures.held held in
-    both_moves_then g.S.Stable c.args.now g.N.Network.tape g.N.Network.Tells g.D.Desk.tape g.D.Desk.Tells p told on _ net _ _ desk desk
-    (both_moves_then g.S.Stable c.args.now g.N.Network.tape g.N.Network.Tells g.D.Desk.tape g.D.Desk.Tells p out told _ net net _ _ desk
-    c.in_ok-has_replied.ensures.moves
-    (both_of_clients g.S.Stable c.args.now g.N.Network.tape g.N.Network.Tells g.D.Desk.tape g.D.Desk.Tells out told net _ desk
-    (clients_moves_then g.S.Stable c.args.now g.D.Desk.tape g.D.Desk.Tells out away told _ _ desk
-    (clients_moves_then g.S.Stable c.args.now g.D.Desk.tape g.D.Desk.Tells out ripe away _ _ _
-    (c.in_ok-has_answered.ensures.moves c.args.now held)
-    (clients_moves_quiet g.S.Stable c.args.now g.D.Desk.tape g.D.Desk.Tells ripe away _
-    (c.in_ok-turn_away.ensures.moves c.args.now (c.in_ok-has_answered.ensures.held held))))
+    both_sent g.S.Stable c.args.now g.N.Network.tape g.N.Network.Tells g.D.Desk.tape g.D.Desk.Tells p told on _ net _ _ desk _
+    (both_told g.S.Stable c.args.now g.N.Network.tape g.N.Network.Tells g.D.Desk.tape g.D.Desk.Tells p away told _ net _ _ desk _ _
+    (both_quiet g.S.Stable c.args.now g.N.Network.tape g.N.Network.Tells g.D.Desk.tape g.D.Desk.Tells p ripe away _ net _ _ _
+    (both_told g.S.Stable c.args.now g.N.Network.tape g.N.Network.Tells g.D.Desk.tape g.D.Desk.Tells p out ripe _ net _ _ _ _ _
+    c.in_ok-has_replied.ensures.moves (c.in_ok-has_answered.ensures.moves c.args.now held))
+    (c.in_ok-turn_away.ensures.moves c.args.now (c.in_ok-has_answered.ensures.held held)))
     (c.in_ok-has_told.ensures.moves c.args.now held_then
     (none_ripe_same _ _ _ _ (ap (λ l. (life_of l).node) c.turn_away.ensures.life) c.turn_away.ensures.questions
-    c.in_ok-has_answered.ensures.ripe)))))
-    (both_of_nodes g.S.Stable c.args.now g.N.Network.tape g.N.Network.Tells g.D.Desk.tape g.D.Desk.Tells told on _ _ desk
+    c.in_ok-has_answered.ensures.ripe)))
     (c.in_ok-hand_on.ensures.moves (c.in_ok-has_told.ensures.held held_then)
     (λ full. c.tell_due.ensures.requests.1
-    ∙ (c.in_ok-turn_away.ensures.full (subst (λ n. IsFull n) c.in_ok-has_told.ensures.node full)).1)))
+    ∙ (c.in_ok-turn_away.ensures.full (subst (λ n. IsFull n) c.in_ok-has_told.ensures.node full)).1))
 
 pub returns-clause-held : goal.returns-clause-held
 returns-clause-held g c =
@@ -108,3 +106,108 @@ pub returns-clause-own : goal.returns-clause-own
 returns-clause-own g c =
     ap (λ l. (life_of l).own) c.hand_on.ensures.life ∙ c.in_ok-has_told.ensures.own ∙ ap (λ l. (life_of l).own) c.turn_away.ensures.life
     ∙ c.in_ok-has_answered.ensures.own ∙ c.in_ok-has_replied.ensures.own
+
+pub returns-in_err-has_answered-clause-breaks : goal.returns-in_err-has_answered-clause-breaks
+returns-in_err-has_answered-clause-breaks g c =
+    let p = process_of c.args.self.now in
+    let out = process_of c.let_out.new.self in
+    on_err _ (breaks_then g.D.Desk.tape g.D.Desk.Tells p.waiting out.waiting _ _ _
+    (kept_of_both g.D.Desk.tape g.D.Desk.Tells g.S.Stable c.args.now g.N.Network.tape g.N.Network.Tells p out _ _ _ _ _ c.in_ok-has_replied.ensures.moves)
+    (c.in_err-has_answered.ensures.breaks c.in_ok-has_replied.ensures.held))
+
+pub returns-in_err-turn_away-clause-breaks : goal.returns-in_err-turn_away-clause-breaks
+returns-in_err-turn_away-clause-breaks g c =
+    let p = process_of c.args.self.now in
+    let out = process_of c.let_out.new.self in
+    let ripe = process_of c.tell_ripe.new.self in
+    on_err _ (breaks_keeping g.D.Desk.tape g.D.Desk.Tells p.waiting ripe.waiting _ _
+    (kept_answering g.D.Desk.tape g.D.Desk.Tells g.S.Stable c.args.now g.N.Network.tape g.N.Network.Tells p out ripe _ _ _ _ _ _ _
+    c.in_ok-has_replied.ensures.moves (c.in_ok-has_answered.ensures.moves c.args.now c.in_ok-has_replied.ensures.held)))
+
+pub returns-in_err-has_told-clause-breaks : goal.returns-in_err-has_told-clause-breaks
+returns-in_err-has_told-clause-breaks g c =
+    let p = process_of c.args.self.now in
+    let out = process_of c.let_out.new.self in
+    let ripe = process_of c.tell_ripe.new.self in
+    let away = process_of c.turn_away.new.self in
+    let held_then = ap (λ l. (life_of l).held) c.turn_away.ensures.life ∙ c.in_ok-has_answered.ensures.held c.in_ok-has_replied.ensures.held in
+    let none_ripe = none_ripe_same _ _ _ _ (ap (λ l. (life_of l).node) c.turn_away.ensures.life) c.turn_away.ensures.questions
+    c.in_ok-has_answered.ensures.ripe in
+    on_err _ (breaks_then g.D.Desk.tape g.D.Desk.Tells p.waiting away.waiting _ _ _
+    (kept_quietly g.D.Desk.tape g.D.Desk.Tells g.S.Stable c.args.now p.waiting ripe away _ _
+    (kept_answering g.D.Desk.tape g.D.Desk.Tells g.S.Stable c.args.now g.N.Network.tape g.N.Network.Tells p out ripe _ _ _ _ _ _ _
+    c.in_ok-has_replied.ensures.moves (c.in_ok-has_answered.ensures.moves c.args.now c.in_ok-has_replied.ensures.held))
+    (c.in_ok-turn_away.ensures.moves c.args.now (c.in_ok-has_answered.ensures.held c.in_ok-has_replied.ensures.held)))
+    (c.in_err-has_told.ensures.breaks held_then none_ripe))
+
+pub returns-in_err-hand_on-clause-breaks : goal.returns-in_err-hand_on-clause-breaks
+returns-in_err-hand_on-clause-breaks g c =
+    let p = process_of c.args.self.now in
+    let out = process_of c.let_out.new.self in
+    let ripe = process_of c.tell_ripe.new.self in
+    let away = process_of c.turn_away.new.self in
+    let told = process_of c.tell_due.new.self in
+    let held_then = ap (λ l. (life_of l).held) c.turn_away.ensures.life ∙ c.in_ok-has_answered.ensures.held c.in_ok-has_replied.ensures.held in
+    let none_ripe = none_ripe_same _ _ _ _ (ap (λ l. (life_of l).node) c.turn_away.ensures.life) c.turn_away.ensures.questions
+    c.in_ok-has_answered.ensures.ripe in
+    on_err _ (breaks_keeping g.D.Desk.tape g.D.Desk.Tells p.waiting told.waiting _ _
+    (kept_both g.D.Desk.tape g.D.Desk.Tells p.waiting away.waiting told.waiting _ _ _
+    (kept_quietly g.D.Desk.tape g.D.Desk.Tells g.S.Stable c.args.now p.waiting ripe away _ _
+    (kept_answering g.D.Desk.tape g.D.Desk.Tells g.S.Stable c.args.now g.N.Network.tape g.N.Network.Tells p out ripe _ _ _ _ _ _ _
+    c.in_ok-has_replied.ensures.moves (c.in_ok-has_answered.ensures.moves c.args.now c.in_ok-has_replied.ensures.held))
+    (c.in_ok-turn_away.ensures.moves c.args.now (c.in_ok-has_answered.ensures.held c.in_ok-has_replied.ensures.held)))
+    (telling_kept g.D.Desk.tape g.D.Desk.Tells g.S.Stable c.args.now away told _ _ _ (c.in_ok-has_told.ensures.moves c.args.now held_then none_ripe))))
+
+pub returns-in_err-has_replied-clause-stops : goal.returns-in_err-has_replied-clause-stops
+returns-in_err-has_replied-clause-stops g c = on_err _ c.in_err-has_replied.ensures.stops
+
+pub returns-in_err-has_answered-clause-stops : goal.returns-in_err-has_answered-clause-stops
+returns-in_err-has_answered-clause-stops g c =
+    on_err _ (both_break_told g.S.Stable c.args.now g.N.Network.tape g.N.Network.Tells g.D.Desk.tape g.D.Desk.Tells (process_of c.args.self.now) (process_of c.let_out.new.self) _ _ _ _ _ _ _
+    c.in_ok-has_replied.ensures.moves (c.in_err-has_answered.ensures.stops c.args.now c.in_ok-has_replied.ensures.held))
+
+pub returns-in_err-turn_away-clause-stops : goal.returns-in_err-turn_away-clause-stops
+returns-in_err-turn_away-clause-stops g c =
+    on_err _ (both_break_still g.S.Stable c.args.now g.N.Network.tape g.N.Network.Tells g.D.Desk.tape g.D.Desk.Tells (process_of c.args.self.now) (process_of c.tell_ripe.new.self) _ _ _ _ _ _
+    (both_told g.S.Stable c.args.now g.N.Network.tape g.N.Network.Tells g.D.Desk.tape g.D.Desk.Tells (process_of c.args.self.now) (process_of c.let_out.new.self) (process_of c.tell_ripe.new.self)
+    _ _ _ _ _ _ _ c.in_ok-has_replied.ensures.moves (c.in_ok-has_answered.ensures.moves c.args.now c.in_ok-has_replied.ensures.held))
+    (c.in_err-turn_away.ensures.stops c.args.now (c.in_ok-has_answered.ensures.held c.in_ok-has_replied.ensures.held)))
+
+pub returns-in_err-has_told-clause-stops : goal.returns-in_err-has_told-clause-stops
+returns-in_err-has_told-clause-stops g c =
+    let p = process_of c.args.self.now in
+    let out = process_of c.let_out.new.self in
+    let ripe = process_of c.tell_ripe.new.self in
+    let away = process_of c.turn_away.new.self in
+    let held = c.in_ok-has_replied.ensures.held in
+    let held_then = ap (λ l. (life_of l).held) c.turn_away.ensures.life ∙ c.in_ok-has_answered.ensures.held held in
+    on_err _ (both_break_told g.S.Stable c.args.now g.N.Network.tape g.N.Network.Tells g.D.Desk.tape g.D.Desk.Tells p away _ _ _ _ _ _ _
+    (both_quiet g.S.Stable c.args.now g.N.Network.tape g.N.Network.Tells g.D.Desk.tape g.D.Desk.Tells p ripe away _ _ _ _ _
+    (both_told g.S.Stable c.args.now g.N.Network.tape g.N.Network.Tells g.D.Desk.tape g.D.Desk.Tells p out ripe _ _ _ _ _ _ _
+    c.in_ok-has_replied.ensures.moves (c.in_ok-has_answered.ensures.moves c.args.now held))
+    (c.in_ok-turn_away.ensures.moves c.args.now (c.in_ok-has_answered.ensures.held held)))
+    (c.in_err-has_told.ensures.stops c.args.now held_then
+    (none_ripe_same _ _ _ _ (ap (λ l. (life_of l).node) c.turn_away.ensures.life) c.turn_away.ensures.questions
+    c.in_ok-has_answered.ensures.ripe)))
+
+pub returns-in_err-hand_on-clause-stops : goal.returns-in_err-hand_on-clause-stops
+returns-in_err-hand_on-clause-stops g c =
+    let p = process_of c.args.self.now in
+    let out = process_of c.let_out.new.self in
+    let ripe = process_of c.tell_ripe.new.self in
+    let away = process_of c.turn_away.new.self in
+    let told = process_of c.tell_due.new.self in
+    let held = c.in_ok-has_replied.ensures.held in
+    let held_then = ap (λ l. (life_of l).held) c.turn_away.ensures.life ∙ c.in_ok-has_answered.ensures.held held in
+    on_err _ (both_break_sent g.S.Stable c.args.now g.N.Network.tape g.N.Network.Tells g.D.Desk.tape g.D.Desk.Tells p told _ _ _ _ _ _ _
+    (both_told g.S.Stable c.args.now g.N.Network.tape g.N.Network.Tells g.D.Desk.tape g.D.Desk.Tells p away told _ _ _ _ _ _ _
+    (both_quiet g.S.Stable c.args.now g.N.Network.tape g.N.Network.Tells g.D.Desk.tape g.D.Desk.Tells p ripe away _ _ _ _ _
+    (both_told g.S.Stable c.args.now g.N.Network.tape g.N.Network.Tells g.D.Desk.tape g.D.Desk.Tells p out ripe _ _ _ _ _ _ _
+    c.in_ok-has_replied.ensures.moves (c.in_ok-has_answered.ensures.moves c.args.now held))
+    (c.in_ok-turn_away.ensures.moves c.args.now (c.in_ok-has_answered.ensures.held held)))
+    (c.in_ok-has_told.ensures.moves c.args.now held_then
+    (none_ripe_same _ _ _ _ (ap (λ l. (life_of l).node) c.turn_away.ensures.life) c.turn_away.ensures.questions
+    c.in_ok-has_answered.ensures.ripe)))
+    (c.in_err-hand_on.ensures.stops (c.in_ok-has_told.ensures.held held_then)
+    (λ full. c.tell_due.ensures.requests.1
+    ∙ (c.in_ok-turn_away.ensures.full (subst (λ n. IsFull n) c.in_ok-has_told.ensures.node full)).1)))

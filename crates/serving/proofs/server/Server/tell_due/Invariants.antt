@@ -1,6 +1,6 @@
 use Rattle.std.proofs.Common.{◌≡◌, ◌-◌, length, ℕ, []}
 use Rattle.life.specs.Telling.{nothing}
-use Rattle.serving.specs.Moves.{Moves}
+use Rattle.serving.specs.Moves.{TellsOrNot}
 use Rattle.serving.specs.Seen.{process_of, server_of}
 use Rattle.serving.specs.Resting.{KeepsRequests, NoneIsRipe}
 use Rattle.serving.specs.Serving.{Passes, ServesClients}
@@ -17,6 +17,6 @@ invariant-due g l =
     × KeepsRequests (server_of l.initial.self) (server_of l.self)
     × ((now : ℕ) → (life_of l.initial.self.life).held ≡ nothing → NoneIsRipe (life_of l.initial.self.life).node l.initial.self.waiting.questions
     → Passes g.D.Desk.tape g.D.Desk.Tells (λ said.
-    Moves g.S.Stable now (process_of l.initial.self) [] said (process_of l.self)) l.initial.desk l.desk)
+    TellsOrNot g.S.Stable now (process_of l.initial.self) [] said (process_of l.self) l.has_told) l.initial.desk l.desk)
     × ((life_of l.initial.self.life).held ≡ nothing → (life_of l.self.life).held ≡ nothing)
     × ((life_of l.self.life).own ≡ (life_of l.initial.self.life).own)

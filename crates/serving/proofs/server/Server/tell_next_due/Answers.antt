@@ -1,10 +1,13 @@
 use Rattle.serving.specs.Seen.{process_of, server_of}
 use Rattle.serving.proofs.Answering.{clients_due, clients_line, clients_still}
-use Rattle.std.proofs.Common.{◌∷◌, ap, ◌∙◌, ℕ, List, length, arith}
+use Rattle.std.proofs.Common.{[], ◌∷◌, ap, ◌∙◌, ℕ, List, length, arith}
 use Rattle.serving.specs.declared.waiting.Due.{Due}
 use Rattle.serving.specs.Waitings.{WaitingState}
 use Rattle.life.specs.Seen.{life_of}
 use Rattle.serving.proofs.MovesOut.{asked_holds_nothing, asked_keeps_own, passes_asked, passes_line, passes_still}
+use Rattle.serving.specs.Tapes.{Told, told_in}
+use Rattle.serving.proofs.Passing.{passes_as}
+use Rattle.serving.proofs.Breaking.{on_err}
 use Rattle.serving.proofs.server.Server.tell_next_due.Goals as goal
 
 pub returns-in_default-clause-serves : goal.returns-in_default-clause-serves
@@ -14,20 +17,22 @@ returns-in_default-clause-serves g c =
 pub returns-in_err-tell-in-Line-clause-serves : goal.returns-in_err-tell-in-Line-clause-serves
 returns-in_err-tell-in-Line-clause-serves g c =
     clients_line g.S.Stable g.D.Desk.tape g.D.Desk.Tells (server_of c.args.self.now) c.take_due.new.self c.in-Some.what c.in-Line.connection c.in-Line.line c.as_slice.result.now c.args.desk.now c.tell.new.self
-    c.in-Some.ensures.next c.in-Some.ensures.others c.in-Line.is c.as_slice.ensures.value c.tell.ensures.tape c.tell.ensures.told
+    c.tell.result c.in-Some.ensures.next c.in-Some.ensures.others c.in-Line.is c.as_slice.ensures.value c.tell.ensures.tape
+    c.tell.ensures.told
 
 pub returns-in_ok-tell-in-Line-clause-serves : goal.returns-in_ok-tell-in-Line-clause-serves
 returns-in_ok-tell-in-Line-clause-serves g c =
     clients_line g.S.Stable g.D.Desk.tape g.D.Desk.Tells (server_of c.args.self.now) c.take_due.new.self c.in-Some.what c.in-Line.connection c.in-Line.line c.as_slice.result.now c.args.desk.now c.tell.new.self
-    c.in-Some.ensures.next c.in-Some.ensures.others c.in-Line.is c.as_slice.ensures.value c.tell.ensures.tape c.tell.ensures.told
+    c.tell.result c.in-Some.ensures.next c.in-Some.ensures.others c.in-Line.is c.as_slice.ensures.value c.tell.ensures.tape
+    c.tell.ensures.told
 
-pub returns-in_err-answer-in-Answer-clause-serves : goal.returns-in_err-answer-in-Answer-clause-serves
-returns-in_err-answer-in-Answer-clause-serves g c =
+pub returns-in_err-was_told-in-Answer-clause-serves : goal.returns-in_err-was_told-in-Answer-clause-serves
+returns-in_err-was_told-in-Answer-clause-serves g c =
     clients_due g.S.Stable g.D.Desk.tape g.D.Desk.Tells (server_of c.args.self.now) (server_of c.answer.new.self) c.take_due.new.self c.in-Some.what c.in-Answer.question c.args.desk.now c.answer.new.desk
     c.in-Some.ensures.next c.in-Some.ensures.others c.in-Answer.is c.answer.ensures.serves
 
-pub returns-in_ok-answer-in-Answer-clause-serves : goal.returns-in_ok-answer-in-Answer-clause-serves
-returns-in_ok-answer-in-Answer-clause-serves g c =
+pub returns-in_ok-was_told-in-Answer-clause-serves : goal.returns-in_ok-was_told-in-Answer-clause-serves
+returns-in_ok-was_told-in-Answer-clause-serves g c =
     clients_due g.S.Stable g.D.Desk.tape g.D.Desk.Tells (server_of c.args.self.now) (server_of c.answer.new.self) c.take_due.new.self c.in-Some.what c.in-Answer.question c.args.desk.now c.answer.new.desk
     c.in-Some.ensures.next c.in-Some.ensures.others c.in-Answer.is c.answer.ensures.serves
 
@@ -39,8 +44,8 @@ pub returns-in_ok-tell-in-Line-clause-less : goal.returns-in_ok-tell-in-Line-cla
 returns-in_ok-tell-in-Line-clause-less g c =
     omega (arith, ap {B = ℕ} (λ (ds : List Due). length ds) c.in-Some.ensures.next)
 
-pub returns-in_ok-answer-in-Answer-clause-less : goal.returns-in_ok-answer-in-Answer-clause-less
-returns-in_ok-answer-in-Answer-clause-less g c =
+pub returns-in_ok-was_told-in-Answer-clause-less : goal.returns-in_ok-was_told-in-Answer-clause-less
+returns-in_ok-was_told-in-Answer-clause-less g c =
     omega (arith, ap {B = ℕ} (λ (ds : List Due). length ds) c.in-Some.ensures.next, ap {B = ℕ} (λ (ds : List Due). length ds) c.answer.ensures.due)
 
 pub returns-in_default-clause-moves : goal.returns-in_default-clause-moves
@@ -53,21 +58,30 @@ pub returns-in_ok-tell-in-Line-clause-moves : goal.returns-in_ok-tell-in-Line-cl
 returns-in_ok-tell-in-Line-clause-moves g c = λ now held ripe.
     passes_line g.S.Stable g.D.Desk.tape g.D.Desk.Tells now (process_of c.args.self.now) c.take_due.new.self c.in-Some.what
     c.in-Line.connection c.in-Line.line c.as_slice.result.now c.args.desk.now c.tell.new.self c.in-Some.ensures.next c.in-Some.ensures.others
-    c.in-Line.is c.as_slice.ensures.value c.tell.ensures.tape c.tell.ensures.told
+    c.in-Line.is c.as_slice.ensures.value
+    (passes_as g.D.Desk.tape g.D.Desk.Tells c.args.desk.now c.tell.new.self (told_in c.in-Line.connection c.as_slice.result.now c.tell.result)
+    (Told c.in-Line.connection c.as_slice.result.now ∷ []) c.tell.ensures.tape c.tell.ensures.told
+    (ap (told_in c.in-Line.connection c.as_slice.result.now) c.in_ok-tell-in-Line.was))
 
-pub returns-in_ok-answer-in-Answer-clause-moves : goal.returns-in_ok-answer-in-Answer-clause-moves
-returns-in_ok-answer-in-Answer-clause-moves g c = λ now held ripe.
+pub returns-in_ok-was_told-in-Answer-clause-moves : goal.returns-in_ok-was_told-in-Answer-clause-moves
+returns-in_ok-was_told-in-Answer-clause-moves g c = λ now held ripe.
     passes_asked g.S.Stable g.D.Desk.tape g.D.Desk.Tells now (process_of c.args.self.now) (process_of c.answer.new.self) c.in-Answer.question
-    c.take_due.new.self c.args.desk.now c.answer.new.desk held ripe
+    c.take_due.new.self c.args.desk.now c.answer.new.desk c.in_ok-was_told-in-Answer.was_told held ripe
     (c.in-Some.ensures.next ∙ ap (λ (w : Due). w ∷ c.take_due.new.self.due) c.in-Answer.is) c.in-Some.ensures.others
-    c.in_ok-answer-in-Answer.ensures.answers c.answer.ensures.asked c.in_ok-answer-in-Answer.ensures.holds_back c.answer.ensures.others
+    c.in_ok-was_told-in-Answer.ensures.answers c.answer.ensures.asked c.in_ok-was_told-in-Answer.ensures.holds_back c.answer.ensures.others
 
-pub returns-in_ok-answer-in-Answer-clause-held : goal.returns-in_ok-answer-in-Answer-clause-held
-returns-in_ok-answer-in-Answer-clause-held g c =
+pub returns-in_ok-was_told-in-Answer-clause-held : goal.returns-in_ok-was_told-in-Answer-clause-held
+returns-in_ok-was_told-in-Answer-clause-held g c =
     asked_holds_nothing g.S.Stable g.D.Desk.tape g.D.Desk.Tells (life_of c.args.self.now.life) (life_of c.answer.new.self.life)
-    c.in-Answer.question c.args.desk.now c.answer.new.desk c.in_ok-answer-in-Answer.ensures.answers (λ position at before. (c.in_ok-answer-in-Answer.ensures.holds_back position at before).1)
+    c.in-Answer.question c.in_ok-was_told-in-Answer.was_told c.args.desk.now c.answer.new.desk c.in_ok-was_told-in-Answer.ensures.answers (λ position at before. (c.in_ok-was_told-in-Answer.ensures.holds_back position at before).1)
 
-pub returns-in_ok-answer-in-Answer-clause-own : goal.returns-in_ok-answer-in-Answer-clause-own
-returns-in_ok-answer-in-Answer-clause-own g c =
+pub returns-in_ok-was_told-in-Answer-clause-own : goal.returns-in_ok-was_told-in-Answer-clause-own
+returns-in_ok-was_told-in-Answer-clause-own g c =
     asked_keeps_own g.S.Stable g.D.Desk.tape g.D.Desk.Tells (life_of c.args.self.now.life) (life_of c.answer.new.self.life)
-    c.in-Answer.question c.args.desk.now c.answer.new.desk c.in_ok-answer-in-Answer.ensures.answers (λ position at before. (c.in_ok-answer-in-Answer.ensures.holds_back position at before).1)
+    c.in-Answer.question c.in_ok-was_told-in-Answer.was_told c.args.desk.now c.answer.new.desk c.in_ok-was_told-in-Answer.ensures.answers (λ position at before. (c.in_ok-was_told-in-Answer.ensures.holds_back position at before).1)
+
+pub returns-in_err-tell-in-Line-clause-breaks : goal.returns-in_err-tell-in-Line-clause-breaks
+returns-in_err-tell-in-Line-clause-breaks g c =
+    on_err _ (
+    passes_as g.D.Desk.tape g.D.Desk.Tells c.args.desk.now c.tell.new.self (told_in c.in-Line.connection c.as_slice.result.now c.tell.result) []
+    c.tell.ensures.tape c.tell.ensures.told (ap (told_in c.in-Line.connection c.as_slice.result.now) c.in_err-tell-in-Line.was))

@@ -49,7 +49,7 @@ returns-clause-moves g c = λ now held.
     passes_ripe g.S.Stable g.D.Desk.tape g.D.Desk.Tells now (process_of c.args.self.now) (process_of c.answer.new.self)
     c.position-position.result c.in-Some.question c.ripe.new.self c.args.desk.now c.answer.new.desk held c.position-position.ensures
     c.in-Some.ensures.first c.in-Some.ensures.others
-    (c.in_ok-answer.ensures.answers c.position-position.result c.position-position.ensures c.in-Some.ensures.first.ripe)
+    (c.in_ok-answer.ensures.answers c.position-position.result c.position-position.ensures c.in-Some.ensures.first.ripe).1
     c.answer.ensures.others
     (c.answer.ensures.asked c.position-position.result c.position-position.ensures c.in-Some.ensures.first.ripe)
 
@@ -57,10 +57,10 @@ pub returns-clause-held : goal.returns-clause-held
 returns-clause-held g c = λ held.
     answer_holds_nothing g.S.Stable g.D.Desk.tape g.D.Desk.Tells (life_of c.args.self.now.life) (life_of c.answer.new.self.life)
     c.in-Some.question c.args.desk.now c.answer.new.desk
-    (c.in_ok-answer.ensures.answers c.position-position.result c.position-position.ensures c.in-Some.ensures.first.ripe)
+    (c.in_ok-answer.ensures.answers c.position-position.result c.position-position.ensures c.in-Some.ensures.first.ripe).1
 
 pub returns-clause-own : goal.returns-clause-own
 returns-clause-own g c =
     answer_keeps_own g.S.Stable g.D.Desk.tape g.D.Desk.Tells (life_of c.args.self.now.life) (life_of c.answer.new.self.life)
     c.in-Some.question c.args.desk.now c.answer.new.desk
-    (c.in_ok-answer.ensures.answers c.position-position.result c.position-position.ensures c.in-Some.ensures.first.ripe)
+    (c.in_ok-answer.ensures.answers c.position-position.result c.position-position.ensures c.in-Some.ensures.first.ripe).1

@@ -1,4 +1,5 @@
-use Rattle.std.proofs.Common.{List, [], ◌∷◌, All, Contains, not, refl, sym, ap, subst}
+use Rattle.std.proofs.Common.{◌≡◌, ℕ, List, [], ◌∷◌, All, Contains, not, refl, sym, ap, subst, take}
+use Rattle.serving.specs.Processes.{ProcessState}
 use Rattle.serving.specs.Claiming.{is_of}
 use Rattle.serving.specs.Seen.{process_of, server_of}
 use Rattle.serving.proofs.MovesOut.{others_settled, replies_more, replies_none}
@@ -12,6 +13,10 @@ use Rattle.serving.specs.Owing.{reply_told}
 use Rattle.serving.specs.Tapes.{HasPassed}
 use Rattle.serving.proofs.Requested.{unreplied_more, unreplied_none}
 use Rattle.serving.specs.Waitings.{WaitingState}
+use Rattle.serving.proofs.Breaking.{breaks_replying, on_err}
+use Rattle.serving.specs.Serving.{Passes}
+use Rattle.serving.specs.Tapes.{Talk}
+use Rattle.serving.proofs.Stopping.{so_many_replies}
 use Rattle.serving.proofs.server.Server.tell_replies.Goals as goal
 
 pub replies-init : goal.replies-init
@@ -52,3 +57,21 @@ replies-preserved g c = (
       (filter (λ claim. not (is_of c.replied-item.result.client c.value-number.result claim)) c.replies.self.waiting.claims)
       c.replies.invariant.5 c.settle.ensures,
 )
+
+pub returns-in_err-tell_reply-clause-breaks : goal.returns-in_err-tell_reply-clause-breaks
+returns-in_err-tell_reply-clause-breaks g c =
+    on_err _ (
+    let old = c.args.self.now.waiting in
+    breaks_replying g.D.Desk.tape g.D.Desk.Tells old.claims c.replies.self.waiting.claims old c.replies.self.waiting
+    (take c.replies.replied-index c.args.replies.now) c.replied-item.result c.args.desk.now c.replies.desk c.tell_reply.new.desk refl
+    (ap (λ (p : ProcessState _). p.waiting) c.replies.invariant.5) c.replies.invariant.4
+    (subst (λ (xs : List Claim). Passes g.D.Desk.tape g.D.Desk.Tells (λ (said : List Talk). (count : ℕ) × (said ≡ reply_told c.replied-item.result (take count xs)))
+    c.replies.desk c.tell_reply.new.desk) c.claims.ensures c.in_err-tell_reply.ensures.breaks))
+
+pub returns-in_err-tell_reply-clause-some : goal.returns-in_err-tell_reply-clause-some
+returns-in_err-tell_reply-clause-some g c =
+    on_err _ (so_many_replies g.D.Desk.tape g.D.Desk.Tells c.args.self.now.waiting.claims c.replies.self.waiting.claims c.args.replies.now c.replies.replied-index
+    c.replied-item.result c.args.desk.now c.replies.desk c.tell_reply.new.desk c.replies-test.true c.replied-item.is
+    c.replies.invariant.4
+    (subst (λ (xs : List Claim). Passes g.D.Desk.tape g.D.Desk.Tells (λ (said : List Talk). (count : ℕ) × (said ≡ reply_told c.replied-item.result (take count xs)))
+    c.replies.desk c.tell_reply.new.desk) c.claims.ensures c.in_err-tell_reply.ensures.breaks))

@@ -1,14 +1,12 @@
-use Rattle.serving.specs.Resting.{HasListened, HasTaken}
-use Rattle.serving.proofs.Taking.{listened_more, passes_more, taken_more}
 use Rattle.serving.proofs.HandingOn.{rightly_since}
 use Rattle.serving.specs.Seen.{process_of}
-use Rattle.serving.specs.Tapes.{NothingCame, NothingHeard}
 use Rattle.serving.proofs.Keeping.{has_looked, moves_looking}
 use Rattle.serving.proofs.MovesKeep.{turn_keeps_each, turn_learns, turn_stays}
-use Rattle.serving.proofs.Moving.{both_quiet, both_turn_then}
-use Rattle.serving.proofs.Passing.{over_then, passes_contains}
-use Rattle.std.proofs.Common.{◌∙◌}
-use Rattle.std.proofs.lemmas.Bool.{or_parts}
+use Rattle.serving.proofs.Moving.{both_quiet, both_turned}
+use Rattle.serving.proofs.Passing.{over_then}
+use Rattle.std.proofs.Common.{◌∙◌, ◌||◌}
+use Rattle.serving.proofs.Breaking.{breaks_over, breaks_then, kept_of_all, on_err}
+use Rattle.serving.proofs.Stopping.{both_stop_telling}
 use Rattle.serving.proofs.server.Server.turn.Goals as goal
 
 pub returns-in_err-has_told-clause-serves : goal.returns-in_err-has_told-clause-serves
@@ -31,13 +29,6 @@ returns-clause-sends g c =
 pub returns-clause-own : goal.returns-clause-own
 returns-clause-own g c = c.in_ok-has_told.ensures.own ∙ c.in_ok-more_came.ensures.own
 
-pub returns-clause-quiet : goal.returns-clause-quiet
-returns-clause-quiet g c = λ none.
-    let before = c.in_ok-more_came.ensures.quiet (or_parts c.in_ok-more_came.more_came c.in_ok-has_told.has_told none).0 in (
-      passes_contains g.N.Network.tape g.N.Network.Tells NothingCame _ _ _ c.tell.ensures.serves.sent before.0 c.tell.ensures.serves.carries,
-      passes_contains g.D.Desk.tape g.D.Desk.Tells NothingHeard _ _ _ c.tell.ensures.serves.said before.1 c.tell.ensures.serves.talks,
-    )
-
 pub returns-clause-held : goal.returns-clause-held
 returns-clause-held g c = c.in_ok-has_told.ensures.held
 
@@ -55,12 +46,11 @@ returns-clause-moves g c =
     let looked = record told { timing = c.see_position.new.self } in
     let net = c.tell.new.network in
     let desk = c.tell.new.desk in
-    both_turn_then g.S.Stable c.args.now g.N.Network.tape g.N.Network.Tells g.D.Desk.tape g.D.Desk.Tells p told looked
-    c.args.network.now net net c.args.desk.now desk desk
-    (both_turn_then g.S.Stable c.args.now g.N.Network.tape g.N.Network.Tells g.D.Desk.tape g.D.Desk.Tells p taken told
-    c.args.network.now c.take.new.network net c.args.desk.now c.take.new.desk desk
-    c.in_ok-more_came.ensures.moves c.in_ok-has_told.ensures.moves)
-    (both_quiet g.S.Stable c.args.now g.N.Network.tape g.N.Network.Tells g.D.Desk.tape g.D.Desk.Tells told looked net desk
+    both_turned g.S.Stable c.args.now g.N.Network.tape g.N.Network.Tells g.D.Desk.tape g.D.Desk.Tells p taken looked
+    c.args.network.now c.take.new.network net c.args.desk.now c.take.new.desk desk c.in_ok-more_came.more_came c.in_ok-has_told.has_told
+    c.in_ok-more_came.ensures.takes
+    (both_quiet g.S.Stable c.args.now g.N.Network.tape g.N.Network.Tells g.D.Desk.tape g.D.Desk.Tells taken told looked
+    c.take.new.network net c.take.new.desk desk c.in_ok-has_told.has_told c.in_ok-has_told.ensures.moves
     (moves_looking g.S.Stable c.args.now told c.position-position.result c.is_asked-is_asked.result c.see_position.new.self
     c.position-position.ensures c.is_asked-is_asked.ensures c.see_position.ensures))
 
@@ -68,27 +58,45 @@ pub returns-clause-each : goal.returns-clause-each
 returns-clause-each g c =
     turn_keeps_each g.S.Stable c.args.now g.N.Network.tape g.N.Network.Tells g.D.Desk.tape g.D.Desk.Tells (process_of c.args.self.now)
     (record (process_of c.tell.new.self) { timing = c.see_position.new.self }) c.args.network.now c.tell.new.network c.args.desk.now
-    c.tell.new.desk (returns-clause-moves g c)
+    c.tell.new.desk (c.in_ok-more_came.more_came || c.in_ok-has_told.has_told) (returns-clause-moves g c)
 
 pub returns-clause-stays : goal.returns-clause-stays
 returns-clause-stays g c =
     turn_stays g.S.Stable c.args.now g.N.Network.tape g.N.Network.Tells g.D.Desk.tape g.D.Desk.Tells (process_of c.args.self.now)
     (record (process_of c.tell.new.self) { timing = c.see_position.new.self }) c.args.network.now c.tell.new.network c.args.desk.now
-    c.tell.new.desk (returns-clause-moves g c)
+    c.tell.new.desk (c.in_ok-more_came.more_came || c.in_ok-has_told.has_told) (returns-clause-moves g c)
 
 pub returns-clause-learns : goal.returns-clause-learns
 returns-clause-learns g c =
     turn_learns g.S.Stable c.args.now g.N.Network.tape g.N.Network.Tells g.D.Desk.tape g.D.Desk.Tells c.args.self.now
     (record c.tell.new.self { timing = c.see_position.new.self }) c.args.network.now c.tell.new.network c.args.desk.now
-    c.tell.new.desk (returns-clause-moves g c)
+    c.tell.new.desk (c.in_ok-more_came.more_came || c.in_ok-has_told.has_told) (returns-clause-moves g c)
 
 pub returns-clause-looked : goal.returns-clause-looked
 returns-clause-looked g c =
     has_looked c.args.now (process_of c.tell.new.self) c.position-position.result c.is_asked-is_asked.result c.see_position.new.self
     c.position-position.ensures c.is_asked-is_asked.ensures c.see_position.ensures
 
-pub returns-clause-takes : goal.returns-clause-takes
-returns-clause-takes g c = (
-  passes_more g.N.Network.tape g.N.Network.Tells HasTaken taken_more _ _ _ c.tell.ensures.serves.sent c.in_ok-more_came.ensures.takes.0 c.tell.ensures.serves.carries,
-  passes_more g.D.Desk.tape g.D.Desk.Tells HasListened listened_more _ _ _ c.tell.ensures.serves.said c.in_ok-more_came.ensures.takes.1 c.tell.ensures.serves.talks,
-)
+pub returns-in_err-more_came-clause-breaks : goal.returns-in_err-more_came-clause-breaks
+returns-in_err-more_came-clause-breaks g c =
+    on_err _ (
+    breaks_over g.D.Desk.tape g.D.Desk.Tells c.args.self.now.waiting c.args.desk.now c.take.new.desk c.in_err-more_came.ensures.breaks)
+
+pub returns-in_err-has_told-clause-breaks : goal.returns-in_err-has_told-clause-breaks
+returns-in_err-has_told-clause-breaks g c =
+    on_err _ (
+    let p = process_of c.args.self.now in
+    let taken = process_of c.take.new.self in
+    breaks_over g.D.Desk.tape g.D.Desk.Tells p.waiting c.args.desk.now c.tell.new.desk
+    (breaks_then g.D.Desk.tape g.D.Desk.Tells p.waiting taken.waiting c.args.desk.now c.take.new.desk c.tell.new.desk
+    (kept_of_all g.D.Desk.tape g.D.Desk.Tells g.S.Stable c.args.now g.N.Network.tape g.N.Network.Tells p taken c.args.network.now c.take.new.network c.args.desk.now
+    c.take.new.desk c.in_ok-more_came.more_came c.in_ok-more_came.ensures.takes)
+    c.in_err-has_told.ensures.breaks))
+
+pub returns-in_err-more_came-clause-stops : goal.returns-in_err-more_came-clause-stops
+returns-in_err-more_came-clause-stops g c = on_err _ c.in_err-more_came.ensures.stops
+
+pub returns-in_err-has_told-clause-stops : goal.returns-in_err-has_told-clause-stops
+returns-in_err-has_told-clause-stops g c =
+    on_err _ (both_stop_telling g.S.Stable c.args.now g.N.Network.tape g.N.Network.Tells g.D.Desk.tape g.D.Desk.Tells (process_of c.args.self.now) (process_of c.take.new.self) _ _ _ _ _ _ _ _
+    c.in_ok-more_came.ensures.takes c.in_err-has_told.ensures.stops)

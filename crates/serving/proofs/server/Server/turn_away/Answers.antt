@@ -7,6 +7,8 @@ use Rattle.serving.proofs.Leading.{serves_none, serves_then}
 use Rattle.serving.proofs.Ripening.{full_at, not_full_below, nothing_left, serves_clearing}
 use Rattle.serving.proofs.Moving.{moves_same, moves_then}
 use Rattle.serving.proofs.MovesOut.{moves_clearing}
+use Rattle.serving.proofs.Breaking.{on_err}
+use Rattle.serving.proofs.Stopping.{breaks_moved, near_same}
 use Rattle.serving.proofs.server.Server.turn_away.Goals as goal
 
 pub returns-then-position-lt-SLOTS-clause-serves : goal.returns-then-position-lt-SLOTS-clause-serves
@@ -68,3 +70,8 @@ returns-clause-moves g c = λ now held.
     (subst (λ l. IsFull (life_of l).node) (sym c.claims.invariant.1)
     (full_at (life_of c.args.self.now.life).node c.position.result c.position.ensures (omega (arith, c.if-position-lt-SLOTS.false))))
     c.clear.ensures)
+
+pub returns-in_err-turn_away_next-clause-stops : goal.returns-in_err-turn_away_next-clause-stops
+returns-in_err-turn_away_next-clause-stops g c = λ now held.
+    on_err _ (breaks_moved g.S.Stable now (process_of c.args.self.now) (process_of c.claims.self) _ (c.claims.invariant.4 now held)
+    (near_same g.S.Stable 1 _ _ (ap (λ l. (life_of l).node) c.turn_away_next.ensures.life)))

@@ -1,5 +1,5 @@
 use Rattle.std.proofs.Common.{◌≡◌, ◌-◌, [], length, ℕ}
-use Rattle.serving.specs.Moves.{Moves}
+use Rattle.serving.specs.Moves.{Moves, Telling}
 use Rattle.life.specs.Seen.{life_of}
 use Rattle.life.specs.Telling.{nothing}
 use Rattle.serving.specs.Seen.{process_of, server_of}
@@ -12,4 +12,4 @@ invariant-claims g l =
     × (l.self.life ≡ l.initial.self.life)
     × (l.self.waiting.questions ≡ l.initial.self.waiting.questions)
     × (length l.self.waiting.claims ≡ length l.initial.self.waiting.claims - l.counter)
-    × ((now : ℕ) → (life_of l.initial.self.life).held ≡ nothing → Moves g.S.Stable now (process_of l.initial.self) [] [] (process_of l.self))
+    × ((now : ℕ) → (life_of l.initial.self.life).held ≡ nothing → Moves g.S.Stable now Telling (process_of l.initial.self) [] [] (process_of l.self))
