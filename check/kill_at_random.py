@@ -60,7 +60,7 @@ def left_by(program, lines):
 def whole_run(program, drawn):
     """A schedule whose frames are delivered one by one, as long as there are any, with drawn checkpoints and trims, and what each
     beginning of it leaves."""
-    lines, beginnings = list(BEGIN), [[()] * NODES]
+    lines, beginnings = list(BEGIN), [[()] * NODES, left_by(program, BEGIN)[1]]
     for campaign in range(1, CAMPAIGNS + 1):
         while True:
             for line in outs(drawn):
