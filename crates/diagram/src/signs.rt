@@ -83,6 +83,7 @@ fn draw_sign(picture: &mut Picture, sign: Sign, at: Place) -> io::Result<()>
         Sign::Learnt => others::circle(picture, b"sign learnt", at, 220),
         Sign::Replied => others::circle(picture, b"sign replied", at, 220),
         Sign::Answered => others::circle(picture, b"sign answered", at, 220),
+        Sign::Lost => square(picture, b"sign missed", at),
         Sign::Refused => square(picture, b"sign refused", at),
         Sign::Stopped => square(picture, b"sign stopped", at),
         Sign::Restarted => square(picture, b"sign", at),

@@ -33,12 +33,12 @@ const STYLE: &[u8] =
 line,polyline{fill:none;stroke-width:0.8}.lane{stroke:#bbb}.lost,.waits{stroke-dasharray:3 2}.lost{opacity:0.7}\
 .b0{stroke:#1f77b4}.b1{stroke:#d62728}.b2{stroke:#2ca02c}.b3{stroke:#9467bd}.b4{stroke:#ff7f0e}.b5{stroke:#17becf}\
 .b6{stroke:#8c564b}.b7{stroke:#e377c2}.none{stroke:#7f7f7f}.sign{stroke:#222;stroke-width:0.5;fill:#fff}\
-.learnt{fill:#2ca02c}.replied{fill:#1f77b4}.answered{fill:#17becf}.refused{fill:#ff7f0e}.stopped{fill:#d62728}.restored{fill:#9467bd}";
+.learnt{fill:#2ca02c}.replied{fill:#1f77b4}.answered{fill:#17becf}.missed{fill:#bbb}.refused{fill:#ff7f0e}.stopped{fill:#d62728}.restored{fill:#9467bd}";
 
 /// What the signs and the lines mean.
 const MEANINGS: &[u8] =
     b"dashed: dropped (two thirds of the way) or waiting; a colour for each ballot, grey without one; circles: learnt (green), \
-replied (blue), answered (light blue); squares: refused (orange), stopped (red), restored (violet), restarted (white)";
+replied (blue), answered (light blue); squares: refused (orange), stopped (red), lost as the node was down (grey), restored (violet), restarted (white)";
 
 /// The picture of the frames from number `from`, or the first, to number `to`, or the last; of more than a picture shows, the first ones.
 /// It names those that it shows.
