@@ -98,6 +98,7 @@ pub(crate) fn within_text(
     let count = ids.len();
     let mut text = format!(in alloc; "within {count}")?.into_bytes();
     push_ids(&mut text, &ids)?;
+    text.shrink_to_fit();
     Ok(text)
 }
 
