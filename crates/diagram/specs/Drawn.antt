@@ -15,11 +15,17 @@ use Rattle.diagram.specs.declared.scene.Label.{Label}
 use Rattle.diagram.specs.declared.scene.Mark.{Mark}
 use Rattle.diagram.specs.declared.scene.Scene.{Scene}
 
+-- behind the old text stands such a part, and nothing else
+pub record Adds (IsSuch : List ℕ → Type 0) (old new : List ℕ) : Type 0 where
+  pub part : List ℕ
+  pub such : IsSuch part
+  pub is : new ≡ old ++ part
+
 -- behind the old text stand these things in their order, each as it is drawn, and nothing else
 pub data Draws {A : Type 0} (IsDrawn : A → List ℕ → Type 0) (old : List ℕ) : List A → List ℕ → Type 0 where
   none : Draws IsDrawn old [] old
-  more : (things : List A) (thing : A) (now part : List ℕ) → Draws IsDrawn old things now → IsDrawn thing part
-      → Draws IsDrawn old (things ++ thing ∷ []) (now ++ part)
+  more : (things : List A) (thing : A) (now new : List ℕ) → Draws IsDrawn old things now → Adds (IsDrawn thing) now new
+      → Draws IsDrawn old (things ++ thing ∷ []) new
 
 -- a group is closed behind what stands in it
 abbrev pub group : List ℕ → List ℕ → List ℕ → List ℕ
@@ -75,12 +81,15 @@ pub record IsFrame (s : Scene) (ends : List ℕ) (arrow : Arrow) (text : List �
   pub told : IsTold s.nodes ends arrow (facts_of frame.message) text
 
 -- ---- the marks
--- a group with a mark's title, its sign and its note: the sign stands at the height of its step, on the lane of its node or right of it,
--- where others stand on the lane
+-- a group with a mark's title, its sign at a place, and its note right of that
+pub record IsMarkAt (sign : Place) (m : Mark) (text : List ℕ) : Type 0 where
+  pub note : Place
+  pub right : sign.x ≤ note.x
+  pub is : text ≡ group (codes "mark") m.title.items (sign_text m.sign sign ++ words_text (codes "note") note m.note.items)
+
+-- the sign stands at the height of its step, on the lane of its node or right of it, where others stand on the lane
 pub record IsMark (nodes : ℕ) (ends : List ℕ) (m : Mark) (text : List ℕ) : Type 0 where
   pub sign : Place
   pub right : lane nodes m.node ≤ sign.x
   pub height : sign.y ≡ down ends m.step
-  pub note : Place
-  pub beside : sign.x ≤ note.x
-  pub is : text ≡ group (codes "mark") m.title.items (sign_text m.sign sign ++ words_text (codes "note") note m.note.items)
+  pub there : IsMarkAt sign m text

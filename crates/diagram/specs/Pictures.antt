@@ -4,7 +4,7 @@ use Rattle.std.specs.List.{range_with_len}
 use Rattle.picture.specs.Elements.{picture_begun, picture_ended}
 use Rattle.wire.specs.declared.frames.envelope.Envelope.{Envelope}
 use Rattle.diagram.specs.Arrows.{AreArrows}
-use Rattle.diagram.specs.Drawn.{Draws, IsFrame, IsHead, IsLane, IsLine, IsMark}
+use Rattle.diagram.specs.Drawn.{Adds, Draws, IsFrame, IsHead, IsLane, IsLine, IsMark}
 use Rattle.diagram.specs.Shown.{DrawsStanding, IsLayout, label_step, mark_step}
 use Rattle.diagram.specs.Windows.{IsChosen}
 use Rattle.diagram.specs.declared.arrows.Arrow.{Arrow}
@@ -33,10 +33,10 @@ pub record AreDrawn (s : Scene) (window : Window) (text : List ℕ) : Type 0 whe
   pub style : List ℕ
   pub ends : List ℕ
   pub layout : IsLayout s window ends
-  pub head : List ℕ
-  pub heading : IsHead (length s.frames.now) s.nodes window head
+  pub behind_head : List ℕ
+  pub head : Adds (IsHead (length s.frames.now) s.nodes window) (picture_begun width height style) behind_head
   pub behind_lanes : List ℕ
-  pub lanes : Draws (IsLane s.nodes) (picture_begun width height style ++ head) (range_with_len 0 s.nodes) behind_lanes
+  pub lanes : Draws (IsLane s.nodes) behind_head (range_with_len 0 s.nodes) behind_lanes
   pub behind_labels : List ℕ
   pub labels : DrawsStanding label_step (IsLine ends) ends s.labels.now behind_lanes behind_labels
   pub behind_frames : List ℕ
