@@ -1,4 +1,6 @@
 pub mod ArrowLists
 pub mod DrawnLemmas
 pub mod Drawings
+pub mod FlagLemmas
+pub mod ListLemmas
 pub mod ShownLemmas
