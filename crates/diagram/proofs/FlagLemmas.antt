@@ -1,13 +1,14 @@
 -- Flags of steps, and the places of those that are set.
 use Rattle.std.proofs.Common.{◌≡◌, ◌≢◌, ◌∙◌, ◌⊎◌, inl, inr, ℕ, zero, suc, ◌+◌, ◌<◌, ◌≤◌, List, [], ◌∷◌, ◌++◌, length, take, replicate, slice_get, slice_index_or, slice_set, Bool, true, false, Some, if◌then◌else◌, refl, sym, subst, ap, arith}
-use Rattle.std.proofs.lemmas.List.{take_more}
+use Rattle.std.proofs.lemmas.Bool.{cases_lt, false≢true}
+use Rattle.std.proofs.lemmas.List.{get_or_append_left, get_or_past}
 use Rattle.std.proofs.lemmas.Option.{none-some, same_Some, slice_get_within}
 use Rattle.diagram.specs.Places.{Stands, down}
 use Rattle.diagram.specs.Shown.{IsJust, IsLayout, IsSet, IsStepOf, IsStepOfFrames, IsStepOfPassage, Sets, StandWhereSet, Tells, first_step, frame, label, label_step, last_step, mark, mark_step}
 use Rattle.diagram.specs.declared.arrows.Passage.{Passage}
 use Rattle.diagram.specs.declared.layout.Window.{Window}
 use Rattle.diagram.specs.declared.scene.Scene.{Scene}
-use Rattle.diagram.proofs.ListLemmas.{got_before, got_last, got_of_more, number_of_more}
+use Rattle.diagram.proofs.ListLemmas.{got_before, got_last, got_of_more, last_number, number_of_more, take_so_far}
 
 -- ---- sets of flags
 pub sets_none : (P : ℕ → Type 0) (flags : List Bool) → ((step : ℕ) → ¬ (P step)) → Sets P flags flags
@@ -112,14 +113,13 @@ module _ {A : Type 0} (step_of : A → ℕ) (first last : ℕ) where
         from = h.from;
         to = h.to;
       })
-      (λ step h. record { number = length things; thing = x; there = got_last things x; is = h.is; from = h.from; to = h.to })
+      (λ step h. record { number = length things; thing = x; there = got_last things x (length things) refl; is = h.is; from = h.from; to = h.to })
 
   pub one_more_step : (things : List A) (i : ℕ) (x : A) (a b c : List Bool) → i < length things → x ≡ slice_index_or things i x
       → Sets (IsStepOf step_of (take i things) first last) a b → Sets (IsJust (step_of x) first last) b c
       → Sets (IsStepOf step_of (take (i + 1) things) first last) a c
   one_more_step things i x a b c below read before now =
-      let more : take i things ++ x ∷ [] ≡ take (i + 1) things =
-      subst (λ (y : A). take i things ++ y ∷ [] ≡ take (i + 1) things) (sym read) (sym (take_more things i x below)) in
+      let more = take_so_far things i x below read in
       subst (λ (xs : List A). Sets (IsStepOf step_of xs first last) a c) more (steps_more (take i things) x a b c before now)
 
 -- ---- the steps of frames
@@ -130,14 +130,10 @@ module _ (passages : List Passage) where
   -- what the frames before it have, and that one
   frame_of_more : (first n step : ℕ) → IsStepOfFrames passages first (n + 1) step
       → IsStepOfFrames passages first n step ⊎ IsStepOfFrames passages n (n + 1) step
-  frame_of_more first n step h = elim (below_or_not h.number n) [
+  frame_of_more first n step h = elim (cases_lt h.number n) [
     | inl below ↦ inl (record { number = h.number; from = h.from; below = below; passage = h.passage; there = h.there; is = h.is })
     | inr from ↦ inr (record { number = h.number; from = from; below = h.below; passage = h.passage; there = h.there; is = h.is })
-  ] where
-    below_or_not : (k m : ℕ) → (k < m) ⊎ (m ≤ k)
-    below_or_not k zero = inr (omega arith)
-    below_or_not zero (suc m) = inl (omega arith)
-    below_or_not (suc k) (suc m) = elim (below_or_not k m) [ inl h ↦ inl (omega (arith, h)) | inr h ↦ inr (omega (arith, h)) ]
+  ]
 
   pub one_more_frame : (first n : ℕ) (a b c : List Bool) → first ≤ n → Sets (IsStepOfFrames passages first n) a b
       → Sets (IsStepOfFrames passages n (n + 1)) b c → Sets (IsStepOfFrames passages first (n + 1)) a c
@@ -162,10 +158,19 @@ module _ (passages : List Passage) where
       })
 
 -- ---- places
-module _ (flags : List Bool) (ends : List ℕ) (low high : ℕ) (same : length ends ≡ length flags) (before : StandWhereSet flags ends)
-    (below : (step : ℕ) → down ends step ≤ low) (lower : low ≤ high) where
+pub none_stand : StandWhereSet [] []
+none_stand = record {
+  stands = λ step h. absurd (none-some true h);
+  set = λ step h. absurd (omega (arith, h));
+  in_order = λ i j ordered h k. absurd (omega (arith, h));
+}
 
-  pub below_more : (e : ℕ) → e ≤ high → (step : ℕ) → down (ends ++ e ∷ []) step ≤ high
+-- the next step stands at this height, if its flag is set
+abbrev pub place_if : Bool → ℕ → ℕ
+place_if flag height = if flag then height else 0
+
+module _ (ends : List ℕ) (low high : ℕ) (below : (step : ℕ) → down ends step ≤ low) (lower : low ≤ high) where
+  below_more : (e : ℕ) → e ≤ high → (step : ℕ) → down (ends ++ e ∷ []) step ≤ high
   below_more e top step = elim (number_of_more ends e step) [
     | inl h ↦ omega (arith, below step, h.1)
     | inr s ↦ elim s [
@@ -173,3 +178,93 @@ module _ (flags : List Bool) (ends : List ℕ) (low high : ℕ) (same : length e
       | inr h ↦ omega (arith, h)
     ]
   ]
+
+  pub below_if : (flag : Bool) (step : ℕ) → down (ends ++ place_if flag high ∷ []) step ≤ high
+  below_if true step = below_more high (omega arith) step
+  below_if false step = below_more 0 (omega arith) step
+
+  module _ (flags : List Bool) (same : length ends ≡ length flags) (stand : StandWhereSet flags ends) where
+    stood : (step : ℕ) → Stands ends step → step < length ends
+    stood step h = elim (cases_lt step (length ends)) [
+      | inl k ↦ k
+      | inr k ↦ absurd (omega (arith, h, get_or_past ends step 0 k))
+    ]
+
+    still : (e step : ℕ) → step < length ends → down (ends ++ e ∷ []) step ≡ down ends step
+    still e step h = get_or_append_left ends (e ∷ []) 0 step h
+
+    stands_still : (e step : ℕ) → Stands ends step → Stands (ends ++ e ∷ []) step
+    stands_still e step h = omega (arith, h, still e step (stood step h))
+
+    in_order_still : (e i j : ℕ) → (0 < e → low ≤ e) → i ≤ j → Stands (ends ++ e ∷ []) i → Stands (ends ++ e ∷ []) j
+        → down (ends ++ e ∷ []) i ≤ down (ends ++ e ∷ []) j
+    in_order_still e i j not_higher ordered h k = elim (number_of_more ends e j) [
+      | inl b ↦
+        let a : down (ends ++ e ∷ []) i ≡ down ends i = still e i (omega (arith, ordered, b.0)) in
+        omega (arith, stand.in_order i j ordered (omega (arith, h, a)) (omega (arith, k, b.1)), a, b.1)
+      | inr s ↦ elim s [
+        | inl b ↦ elim (number_of_more ends e i) [
+          | inl a ↦ omega (arith, below i, a.1, b.1, not_higher (omega (arith, k, b.1)))
+          | inr t ↦ elim t [ inl a ↦ omega (arith, a.1, b.1) | inr a ↦ absurd (omega (arith, a.1, h)) ]
+        ]
+        | inr b ↦ absurd (omega (arith, b.1, k))
+      ]
+    ]
+
+    stand_more : (flag : Bool) (e : ℕ) → (flag ≡ true → 0 < e) → (0 < e → flag ≡ true) → (0 < e → low ≤ e)
+        → StandWhereSet (flags ++ flag ∷ []) (ends ++ e ∷ [])
+    stand_more flag e up flagged not_higher = record {
+      stands = λ step h. elim (got_of_more flags flag true step h) [
+        | inl set ↦ stands_still e step (stand.stands step set)
+        | inr k ↦ omega (arith, last_number ends e step (k.0 ∙ sym same), up k.1)
+      ];
+      set = λ step h. elim (number_of_more ends e step) [
+        | inl k ↦ got_before flags (flag ∷ []) step true (stand.set step (omega (arith, h, k.1)))
+        | inr s ↦ elim s [
+          | inl k ↦ got_last flags flag step (k.0 ∙ same) ∙ ap (λ (b : Bool). Some b) (flagged (omega (arith, h, k.1)))
+          | inr k ↦ absurd (omega (arith, h, k.1))
+        ]
+      ];
+      in_order = λ i j ordered h k. in_order_still e i j not_higher ordered h k;
+    }
+
+    pub stand_if : (flag : Bool) → 0 < high → StandWhereSet (flags ++ flag ∷ []) (ends ++ place_if flag high ∷ [])
+    stand_if true up = stand_more true high (λ e. up) (λ h. refl) (λ h. lower)
+    stand_if false up = stand_more false 0 (λ e. absurd (false≢true e)) (λ h. absurd (omega (arith, h))) (λ h. absurd (omega (arith, h)))
+
+-- ---- the layout
+never_set : (n step : ℕ) → ¬ (IsSet (replicate n false) step)
+never_set zero step h = none-some true h
+never_set (suc n) zero h = false≢true (same_Some false true h)
+never_set (suc n) (suc step) h = never_set n step h
+
+module _ (s : Scene) (window : Window) (first last : ℕ) (from : first ≡ first_step s window) (to : last ≡ last_step s window) where
+  between : {A : Type 0} (step_of : A → ℕ) (things : List A) (a b : List Bool) → Sets (IsStepOf step_of things first last) a b
+      → Sets (IsStepOf step_of things (first_step s window) (last_step s window)) a b
+  between step_of things a b h =
+      subst (λ (n : ℕ). Sets (IsStepOf step_of things (first_step s window) n) a b) to
+      (subst (λ (n : ℕ). Sets (IsStepOf step_of things n last) a b) from h)
+
+  pub layout : (n : ℕ) (a b c d : List Bool) (ends : List ℕ) → a ≡ replicate n false → s.steps ≤ length a
+      → Sets (IsStepOfFrames s.passages.now window.first window.end) a b → Sets (IsStepOf mark_step s.marks.now first last) b c
+      → Sets (IsStepOf label_step s.labels.now first last) c d → StandWhereSet d ends → IsLayout s window ends
+  layout n a b c d ends empty steps frames marks_so labels_so stand =
+      let marks = between mark_step s.marks.now b c marks_so in
+      let labels = between label_step s.labels.now c d labels_so in record {
+        stands = λ step below told. stand.stands step (elim told [
+          | frame h ↦ labels.kept step (marks.kept step (frames.set step (omega (arith, below, steps)) h))
+          | mark h ↦ labels.kept step (marks.set step (omega (arith, below, steps, frames.long)) h)
+          | label h ↦ labels.set step (omega (arith, below, steps, frames.long, marks.long)) h
+        ]);
+        tells = λ step h. elim (labels.only step (stand.set step h)) [
+          | inr told ↦ label told
+          | inl x ↦ elim (marks.only step x) [
+            | inr told ↦ mark told
+            | inl y ↦ elim (frames.only step y) [
+              | inr told ↦ frame told
+              | inl z ↦ absurd (never_set n step (subst (λ (flags : List Bool). IsSet flags step) empty z))
+            ]
+          ]
+        ];
+        in_order = λ i j ordered h k. stand.in_order i j ordered h k;
+      }

@@ -1,19 +1,15 @@
 -- What is shown of some things: those whose steps have a place.
 use Rattle.std.proofs.Common.{◌≡◌, ◌⊎◌, inl, inr, ℕ, zero, suc, ◌+◌, ◌<◌, List, [], ◌∷◌, ◌++◌, length, take, slice_index_or, sym, subst, arith}
-use Rattle.std.proofs.lemmas.List.{take_more}
 use Rattle.diagram.specs.Drawn.{Adds, Draws, more, none as nothing}
 use Rattle.diagram.specs.Places.{Stands}
 use Rattle.diagram.specs.Shown.{AreShown, DrawsStanding, left_out, none, shown}
+use Rattle.diagram.proofs.ListLemmas.{take_so_far}
 
 stands_or_not : (n : ℕ) → (0 < n) ⊎ (¬ (0 < n))
 stands_or_not zero = inr (λ h. omega (arith, h))
 stands_or_not (suc n) = inl (omega arith)
 
 module _ {A : Type 0} (step_of : A → ℕ) (IsDrawn : A → List ℕ → Type 0) (ends : List ℕ) where
-  -- it is shown, if its step has a place
-  IsSuch : A → Type 0
-  IsSuch thing = Stands ends (step_of thing)
-
   pub none_standing : (a : List ℕ) → DrawsStanding step_of IsDrawn ends [] a a
   none_standing a = record { shown = []; are = none; drawn = nothing }
 
@@ -37,6 +33,5 @@ module _ {A : Type 0} (step_of : A → ℕ) (IsDrawn : A → List ℕ → Type 0
       → DrawsStanding step_of IsDrawn ends (take i things) a b → (Stands ends (step_of x) → Adds (IsDrawn x) b c)
       → (¬ (Stands ends (step_of x)) → c ≡ b) → DrawsStanding step_of IsDrawn ends (take (i + 1) things) a c
   one_more_standing things i x a b c below read before stands not =
-      let more : take i things ++ x ∷ [] ≡ take (i + 1) things =
-      subst (λ (y : A). take i things ++ y ∷ [] ≡ take (i + 1) things) (sym read) (sym (take_more things i x below)) in
+      let more = take_so_far things i x below read in
       subst (λ (xs : List A). DrawsStanding step_of IsDrawn ends xs a c) more (standing (take i things) x a b c before stands not)

@@ -1,14 +1,17 @@
 -- The line of a frame, by what became of it.
-use Rattle.std.specs.Prelude.{◌≡◌, ◌≢◌, ◌==◌, ℕ, ◌+◌, ◌*◌, ◌/◌, ◌<◌, ◌≤◌, nat_lt, List, ◌++◌, codes, decimal, if◌then◌else◌}
+use Rattle.std.specs.Prelude.{◌≡◌, ◌≢◌, ◌==◌, ℕ, ◌+◌, ◌*◌, ◌/◌, List, [], ◌∷◌, ◌++◌, codes, slice_index_or, if◌then◌else◌}
 use Rattle.picture.specs.Elements.{arrow_text, line_text}
 use Rattle.picture.specs.declared.canvas.Place.{Place}
 use Rattle.diagram.specs.Places.{lane, place}
 use Rattle.diagram.specs.declared.arrows.Arrow.{Arrow}
 use Rattle.diagram.specs.declared.arrows.Fate.TheVariants.{Came, Dropped, Waits}
 
--- the class of a colour: one of eight for ballots, or that of a frame without one
+-- eight colours for ballots, and one for a frame without a ballot
+abbrev pub color_texts : List (List ℕ)
+color_texts = codes "b0" ∷ codes "b1" ∷ codes "b2" ∷ codes "b3" ∷ codes "b4" ∷ codes "b5" ∷ codes "b6" ∷ codes "b7" ∷ []
+
 abbrev pub color_text : ℕ → List ℕ
-color_text color = if nat_lt color 8 then codes "b" ++ decimal color else codes "none"
+color_text color = slice_index_or color_texts color (codes "none")
 
 abbrev pub came_class : ℕ → List ℕ
 came_class color = codes "came " ++ color_text color

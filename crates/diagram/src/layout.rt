@@ -117,9 +117,8 @@ fn show_labels(
     ensures texts { length texts.new.items ≡ length texts.old.items }
 {
     for label in scene.labels {
-        if show_between(shown, label.step, first, last) {
-            add_text(texts, label.step);
-        }
+        let is_shown = show_between(shown, label.step, first, last);
+        add_text(texts, label.step, is_shown);
     }
 }
 
@@ -128,9 +127,16 @@ fn show_passages(shown: &mut Vec<bool>, scene: &Scene, window: Window)
     ensures { Sets (IsStepOfFrames scene.now.passages.now window.first window.end) shown.old.items shown.new.items }
 {
     for number in window.first..window.end {
-        if let Some(passage) = scene.passages.get(number) {
-            show_passage(shown, *passage);
-        }
+        show_frame(shown, scene.passages, number);
+    }
+}
+
+/// The steps at which this frame was sent and came are shown.
+fn show_frame(shown: &mut Vec<bool>, passages: &[Passage], number: usize)
+    ensures { Sets (IsStepOfFrames passages.now number (number + 1)) shown.old.items shown.new.items }
+{
+    if let Some(passage) = passages.get(number) {
+        show_passage(shown, *passage);
     }
 }
 
@@ -192,10 +198,11 @@ fn set_flag(flags: &mut Vec<bool>, index: usize)
     }
 }
 
-fn add_text(texts: &mut Vec<u32>, index: usize)
+/// Counts a line of text, if its step is shown.
+fn add_text(texts: &mut Vec<u32>, index: usize, is_shown: bool)
     ensures { length texts.new.items ≡ length texts.old.items }
 {
-    if index < texts.len() {
+    if is_shown && index < texts.len() {
         texts[index] = texts[index].saturating_add(1);
     }
 }

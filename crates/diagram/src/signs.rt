@@ -52,18 +52,18 @@ fn draw_next(
     let before = lanes[usize::from(node)];
     lanes[usize::from(node)] = before.saturating_add(1);
     let x = lane(nodes, node).saturating_add(before.saturating_mul(SIGNS));
-    draw_mark(picture, mark, Place { x, y })
+    draw_mark(picture, mark, x, y)
 }
 
 /// A sign, and its note.
-fn draw_mark(picture: &mut Picture, mark: &Mark, at: Place) -> io::Result<()>
-    ensures { OnOk result (Adds (IsMarkAt at mark.now) picture.old picture.new) }
+fn draw_mark(picture: &mut Picture, mark: &Mark, x: u32, y: u32) -> io::Result<()>
+    ensures { OnOk result (Adds (IsMarkAt (record { x = x; y = y }) mark.now) picture.old picture.new) }
 {
     picture.open(b"mark", mark.title.as_slice())?;
-    draw_sign(picture, mark.sign, at)?;
+    draw_sign(picture, mark.sign, Place { x, y })?;
     let beside = Place {
-        x: at.x.saturating_add(350),
-        y: at.y.saturating_sub(60),
+        x: x.saturating_add(350),
+        y: y.saturating_sub(60),
     };
     picture.text(b"note", beside, mark.note.as_slice())?;
     picture.close()

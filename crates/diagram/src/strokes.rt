@@ -40,7 +40,7 @@ fn draw_whole(
     color: usize,
     layout: &Layout,
 ) -> io::Result<()>
-    requires { arrow.now.fate ≡ Came step }
+    requires { arrow.now.fate ≡ Fate.Came step }
     ensures { OnOk result (Adds (IsStroke nodes layout.now.ends.items arrow.now color) picture.old picture.new) }
 {
     let begin = place(nodes, arrow.from, layout, arrow.sent);
@@ -65,7 +65,7 @@ fn draw_lost(
     color: usize,
     layout: &Layout,
 ) -> io::Result<()>
-    requires { arrow.now.fate ≡ Dropped }
+    requires { arrow.now.fate ≡ Fate.Dropped }
     ensures { OnOk result (Adds (IsStroke nodes layout.now.ends.items arrow.now color) picture.old picture.new) }
 {
     let begin = place(nodes, arrow.from, layout, arrow.sent);
@@ -84,7 +84,7 @@ fn draw_waiting(
     color: usize,
     layout: &Layout,
 ) -> io::Result<()>
-    requires { arrow.now.fate ≡ Waits }
+    requires { arrow.now.fate ≡ Fate.Waits }
     ensures { OnOk result (Adds (IsStroke nodes layout.now.ends.items arrow.now color) picture.old picture.new) }
 {
     let begin = place(nodes, arrow.from, layout, arrow.sent);
