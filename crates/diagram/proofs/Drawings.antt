@@ -30,15 +30,15 @@ adds_two r IsSuch a b old now new such one two =
 -- a group, from where it is opened to where it is closed
 pub grouped : (class title inside old a b new : List ℕ) → a ≡ old ++ opened class title → b ≡ a ++ inside → new ≡ b ++ closed
     → new ≡ old ++ group class title inside
-grouped class title inside old a b new open within close =
-    behind old (opened class title) (inside ++ closed) a new open (behind a inside closed b new within close)
+grouped class title inside old a b new begin within close =
+    behind old (opened class title) (inside ++ closed) a new begin (behind a inside closed b new within close)
 
 pub adds_group : {T E : Type 0} (r : Result T E) (IsSuch : List ℕ → Type 0) (class title first second old a b c new : List ℕ)
     → IsSuch (group class title (first ++ second)) → a ≡ old ++ opened class title → b ≡ a ++ first → c ≡ b ++ second
     → OnOk r (new ≡ c ++ closed) → OnOk r (Adds IsSuch old new)
-adds_group r IsSuch class title first second old a b c new such open one two close =
+adds_group r IsSuch class title first second old a b c new such begin one two close =
     adds r IsSuch (group class title (first ++ second)) old new such
-    (on_ok_weaker r (grouped class title (first ++ second) old a c new open (behind a first second b c one two)) close)
+    (on_ok_weaker r (grouped class title (first ++ second) old a c new begin (behind a first second b c one two)) close)
 
 -- a frame's kind, by the word for it
 pub told_so : (nodes : ℕ) (ends : List ℕ) (arrow : Arrow) (kind : List ℕ) (beside : Place) (word : List ℕ) → word ≡ kind

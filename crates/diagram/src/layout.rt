@@ -85,6 +85,7 @@ fn fit_page(alloc: Global, scene: &Scene, first: usize, most: usize) -> Result<W
 
 /// How high the steps stand of which the window shows something.
 pub(crate) fn lay_out(alloc: Global, scene: &Scene, window: Window) -> Result<Layout, AllocError>
+    requires { window.first ≤ window.end }
     ensures { IfOk result (λ layout. IsLayout scene.now window layout.ends.items) }
 {
     let mut texts = vec![in alloc; 0u32; scene.steps.saturating_add(1)]?;
@@ -124,6 +125,7 @@ fn show_labels(
 
 /// Every step at which a frame of the window was sent or came is shown.
 fn show_passages(shown: &mut Vec<bool>, scene: &Scene, window: Window)
+    requires { window.first ≤ window.end }
     ensures { Sets (IsStepOfFrames scene.now.passages.now window.first window.end) shown.old.items shown.new.items }
 {
     for number in window.first..window.end {
