@@ -3,7 +3,7 @@ use Rattle.std.proofs.Common.{◌≡◌, ◌∙◌, ℕ, ◌-◌, ◌≤◌, Lis
 use Rattle.std.proofs.lemmas.Result.{on_ok_weaker}
 use Rattle.picture.specs.Elements.{closed, opened, words_text}
 use Rattle.picture.specs.declared.canvas.Place.{Place}
-use Rattle.diagram.specs.Drawn.{Adds, MayTell, group, told, untold}
+use Rattle.diagram.specs.Drawn.{Adds, MayTell, group, told}
 use Rattle.diagram.specs.Places.{down, lane}
 use Rattle.diagram.specs.declared.arrows.Arrow.{Arrow}
 use Rattle.std.specs.Prelude.{codes}

@@ -1,5 +1,5 @@
 -- From what each function draws to the picture.
-use Rattle.std.proofs.Common.{◌≡◌, ◌∙◌, ℕ, ◌+◌, ◌-◌, ◌<◌, List, [], ◌∷◌, ◌++◌, length, take, slice_index_or, slice_get, codes, decimal, Option, Some, None, Result, Ok, Err, OnOk, IfOk, refl, sym, ap, subst}
+use Rattle.std.proofs.Common.{◌≡◌, ◌∙◌, ℕ, ◌+◌, ◌-◌, ◌<◌, List, ◌++◌, length, take, slice_index_or, slice_get, codes, decimal, Option, Some, None, Result, Ok, Err, OnOk, IfOk, refl, sym, ap, subst}
 use Rattle.std.specs.List.{range_with_len}
 use Rattle.std.proofs.lemmas.Option.{none-some}
 use Rattle.std.proofs.lemmas.Result.{on_ok_weaker}
@@ -21,7 +21,7 @@ use Rattle.diagram.proofs.ListLemmas.{range_to, take_so_far}
 pub lane_so : (nodes node x left bottom : ℕ) (name : List ℕ) → x ≡ lane nodes node → left ≡ x - 1200
     → name ≡ codes "node " ++ decimal node
     → IsLane nodes node (words_text (codes "head") (record { x = left; y = 3600 }) name
-        ++ line_text (codes "lane") (record { x = x; y = 3800 }) (record { x = x; y = bottom }))
+    ++ line_text (codes "lane") (record { x = x; y = 3800 }) (record { x = x; y = bottom }))
 lane_so nodes node x left bottom name there off said = record {
   bottom = bottom;
   is = rw (said, off, there) refl;

@@ -1,10 +1,10 @@
 -- Flags of steps, and the places of those that are set.
-use Rattle.std.proofs.Common.{◌≡◌, ◌≢◌, ◌∙◌, ◌⊎◌, inl, inr, ℕ, zero, suc, ◌+◌, ◌<◌, ◌≤◌, List, [], ◌∷◌, ◌++◌, length, take, replicate, slice_get, slice_index_or, slice_set, Bool, true, false, Some, if◌then◌else◌, refl, sym, subst, ap, arith}
+use Rattle.std.proofs.Common.{◌≡◌, ◌∙◌, ◌⊎◌, inl, inr, ℕ, zero, suc, ◌+◌, ◌<◌, ◌≤◌, List, [], ◌∷◌, ◌++◌, length, take, replicate, slice_get, slice_index_or, slice_set, Bool, true, false, Some, if◌then◌else◌, refl, sym, subst, ap, arith}
 use Rattle.std.proofs.lemmas.Bool.{cases_lt, false≢true}
 use Rattle.std.proofs.lemmas.List.{get_or_append_left, get_or_past}
-use Rattle.std.proofs.lemmas.Option.{none-some, same_Some, slice_get_within}
+use Rattle.std.proofs.lemmas.Option.{none-some, same_Some}
 use Rattle.diagram.specs.Places.{Stands, down}
-use Rattle.diagram.specs.Shown.{IsJust, IsLayout, IsSet, IsStepOf, IsStepOfFrames, IsStepOfPassage, Sets, StandWhereSet, Tells, first_step, frame, label, label_step, last_step, mark, mark_step}
+use Rattle.diagram.specs.Shown.{IsJust, IsLayout, IsSet, IsStepOf, IsStepOfFrames, Sets, StandWhereSet, first_step, frame, label, label_step, last_step, mark, mark_step}
 use Rattle.diagram.specs.declared.arrows.Passage.{Passage}
 use Rattle.diagram.specs.declared.layout.Window.{Window}
 use Rattle.diagram.specs.declared.scene.Scene.{Scene}
@@ -75,7 +75,7 @@ sets_one flags new i is = subst (λ (xs : List Bool). Sets (λ step. i ≡ step)
   long = set_long flags i;
   kept = λ k h. set_keeps flags i k h;
   set = λ k below e.
-  subst (λ (n : ℕ). IsSet (slice_set flags i true) n) e (set_there flags i (subst (λ (n : ℕ). n < length flags) (sym e) below));
+      subst (λ (n : ℕ). IsSet (slice_set flags i true) n) e (set_there flags i (subst (λ (n : ℕ). n < length flags) (sym e) below));
   only = λ k h. set_only flags i k h;
 })
 
@@ -200,8 +200,8 @@ module _ (ends : List ℕ) (low high : ℕ) (below : (step : ℕ) → down ends 
         → down (ends ++ e ∷ []) i ≤ down (ends ++ e ∷ []) j
     in_order_still e i j not_higher ordered h k = elim (number_of_more ends e j) [
       | inl b ↦
-        let a : down (ends ++ e ∷ []) i ≡ down ends i = still e i (omega (arith, ordered, b.0)) in
-        omega (arith, stand.in_order i j ordered (omega (arith, h, a)) (omega (arith, k, b.1)), a, b.1)
+          let a : down (ends ++ e ∷ []) i ≡ down ends i = still e i (omega (arith, ordered, b.0)) in
+          omega (arith, stand.in_order i j ordered (omega (arith, h, a)) (omega (arith, k, b.1)), a, b.1)
       | inr s ↦ elim s [
         | inl b ↦ elim (number_of_more ends e i) [
           | inl a ↦ omega (arith, below i, a.1, b.1, not_higher (omega (arith, k, b.1)))

@@ -2,7 +2,7 @@
 use Rattle.std.proofs.Common.{◌≡◌, ◌⊎◌, inl, inr, ℕ, zero, suc, ◌+◌, ◌<◌, List, [], ◌∷◌, ◌++◌, length, take, slice_index_or, sym, subst, arith}
 use Rattle.diagram.specs.Drawn.{Adds, Draws, more, none as nothing}
 use Rattle.diagram.specs.Places.{Stands}
-use Rattle.diagram.specs.Shown.{AreShown, DrawsStanding, left_out, none, shown}
+use Rattle.diagram.specs.Shown.{DrawsStanding, left_out, none, shown}
 use Rattle.diagram.proofs.ListLemmas.{take_so_far}
 
 stands_or_not : (n : ℕ) → (0 < n) ⊎ (¬ (0 < n))

@@ -1,5 +1,5 @@
 -- How the things of a picture are drawn.
-use Rattle.std.specs.Prelude.{◌≡◌, ℕ, ◌-◌, ◌<◌, ◌≤◌, nat_lt, List, [], ◌∷◌, ◌++◌, codes, decimal, take, slice_get, Some, if◌then◌else◌}
+use Rattle.std.specs.Prelude.{◌≡◌, ℕ, ◌-◌, ◌≤◌, nat_lt, List, [], ◌∷◌, ◌++◌, codes, decimal, take, slice_get, Some, if◌then◌else◌}
 use Rattle.picture.specs.Elements.{closed, line_text, opened, words_text}
 use Rattle.picture.specs.declared.canvas.Place.{Place}
 use Rattle.wire.specs.declared.frames.envelope.Envelope.{Envelope}
@@ -36,7 +36,7 @@ group class title inside = opened class title ++ (inside ++ closed)
 abbrev pub heading : Window → ℕ → ℕ → List ℕ
 heading window frames nodes = if nat_lt window.first window.end
     then codes "frames " ++ (decimal window.first ++ (codes " to " ++ (decimal (window.end - 1) ++ (codes " of " ++ (decimal frames
-        ++ (codes ", " ++ (decimal nodes ++ codes " nodes")))))))
+    ++ (codes ", " ++ (decimal nodes ++ codes " nodes")))))))
     else codes "no frame of " ++ (decimal frames ++ (codes ", " ++ (decimal nodes ++ codes " nodes")))
 
 -- that, and a note that is the same in each picture

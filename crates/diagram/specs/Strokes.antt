@@ -37,7 +37,7 @@ pub data IsStroke (nodes : ℕ) (ends : List ℕ) (arrow : Arrow) (color : ℕ) 
       → IsStroke nodes ends arrow color (arrow_text (came_class color) (begin nodes ends arrow) (place nodes ends arrow.to step))
   came_back : (step : ℕ) (bend : Place) → arrow.fate ≡ Came step → arrow.from ≡ arrow.to → bend.x ≡ aim nodes arrow
       → IsStroke nodes ends arrow color (line_text (came_class color) (begin nodes ends arrow) bend
-          ++ arrow_text (came_class color) bend (place nodes ends arrow.to step))
+      ++ arrow_text (came_class color) bend (place nodes ends arrow.to step))
   dropped : (end : Place) → arrow.fate ≡ Dropped → end.x ≡ (lane nodes arrow.from + 2 * aim nodes arrow) / 3
       → IsStroke nodes ends arrow color (line_text (lost_class color) (begin nodes ends arrow) end)
   waits : (end : Place) → arrow.fate ≡ Waits → end.x ≡ aim nodes arrow

@@ -133,12 +133,7 @@ fn draw_labels(picture: &mut Picture, scene: &Scene, layout: &Layout) -> io::Res
 }
 
 /// A line, if its step is shown. So many of its step stand above it.
-fn draw_label(
-    picture: &mut Picture,
-    label: &Label,
-    before: u32,
-    layout: &Layout,
-) -> io::Result<()>
+fn draw_label(picture: &mut Picture, label: &Label, before: u32, layout: &Layout) -> io::Result<()>
     ensures stands { let ends = layout.now.ends.items in
         OnOk result (Stands ends label.now.step → Adds (IsLine ends label.now) picture.old picture.new) }
     ensures left_out { OnOk result (¬ (Stands layout.now.ends.items label.now.step) → picture.new ≡ picture.old) }

@@ -1,4 +1,4 @@
-use Rattle.std.proofs.Common.{◌≡◌, ◌∙◌, ◌-◌, ◌≤◌, arith, ap, codes}
+use Rattle.std.proofs.Common.{◌≡◌, ◌∙◌, ◌-◌, ◌≤◌, arith, codes}
 use Rattle.picture.specs.Elements.{words_text}
 use Rattle.picture.specs.declared.canvas.Place.{Place}
 use Rattle.diagram.specs.Drawn.{MayTell, untold}

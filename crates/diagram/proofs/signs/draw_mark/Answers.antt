@@ -1,4 +1,4 @@
-use Rattle.std.proofs.Common.{◌≡◌, ◌∙◌, ◌++◌, ◌≤◌, List, ℕ, ap, codes, refl, arith}
+use Rattle.std.proofs.Common.{◌∙◌, ◌++◌, ◌≤◌, List, ℕ, ap, codes, refl, arith}
 use Rattle.picture.specs.Elements.{opened, words_text}
 use Rattle.picture.specs.declared.canvas.Place.{Place}
 use Rattle.diagram.specs.Drawn.{IsMarkAt, group}

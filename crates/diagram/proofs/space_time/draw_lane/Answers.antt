@@ -1,8 +1,7 @@
-use Rattle.std.proofs.Common.{◌≡◌, ◌∙◌, ◌-◌, ◌++◌, List, ℕ, ap, codes, decimal}
+use Rattle.std.proofs.Common.{◌≡◌, ◌∙◌, ◌++◌, List, ℕ, ap, codes, decimal}
 use Rattle.picture.specs.Elements.{line_text, words_text}
 use Rattle.picture.specs.declared.canvas.Place.{Place}
 use Rattle.diagram.specs.Drawn.{IsLane}
-use Rattle.diagram.specs.Places.{lane}
 use Rattle.diagram.proofs.Drawings.{adds_two}
 use Rattle.diagram.proofs.DrawnLemmas.{lane_so}
 use Rattle.diagram.proofs.space_time.draw_lane.Goals as goal
