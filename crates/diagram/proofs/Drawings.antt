@@ -1,36 +1,48 @@
--- Elements, one behind another.
-use Rattle.std.proofs.Common.{◌≡◌, ℕ, List, [], ◌∷◌, ◌++◌, Result, OnOk, sym, subst, append_assoc, append-nil}
+-- Parts of a picture, one behind another.
+use Rattle.std.proofs.Common.{◌≡◌, ◌∙◌, ℕ, ◌-◌, ◌≤◌, List, [], ◌++◌, Result, OnOk, sym, subst, ap, append_assoc, append-nil}
 use Rattle.std.proofs.lemmas.Result.{on_ok_weaker}
-use Rattle.picture.specs.Elements.{opened}
-use Rattle.diagram.specs.Titles.{Draws, Group, IsOther, none, other, group}
+use Rattle.picture.specs.Elements.{closed, opened, words_text}
+use Rattle.picture.specs.declared.canvas.Place.{Place}
+use Rattle.diagram.specs.Drawn.{Adds, MayTell, group, told}
+use Rattle.diagram.specs.Places.{down, lane}
+use Rattle.diagram.specs.declared.arrows.Arrow.{Arrow}
+use Rattle.std.specs.Prelude.{codes}
 
-pub others_not : (old : List ℕ) → Draws old [] old
-others_not old = none
+pub one_part : (IsSuch : List ℕ → Type 0) (part old new : List ℕ) → IsSuch part → new ≡ old ++ part → Adds IsSuch old new
+one_part IsSuch part old new such is = record { part = part; such = such; is = is }
 
--- what is drawn behind it has its groups behind those
-pub draws_on : (groups : List Group) (a b : List ℕ) (more : List Group) (c : List ℕ) → Draws a groups b → Draws b more c
-    → Draws a (groups ++ more) c
-draws_on groups a b _ _ one none = subst (λ (ts : List Group). Draws a ts b) (sym (append-nil groups)) one
-draws_on groups a b _ _ one (other more now part two is) = other (groups ++ more) now part (draws_on groups a b more now one two) is
-draws_on groups a b _ _ one (group more now g two) =
-    subst (λ (ts : List Group). Draws a ts (now ++ opened g.class g.title)) (append_assoc groups more (g ∷ []))
-    (group (groups ++ more) now g (draws_on groups a b more now one two))
+pub adds : {T E : Type 0} (r : Result T E) (IsSuch : List ℕ → Type 0) (part old new : List ℕ) → IsSuch part → OnOk r (new ≡ old ++ part)
+    → OnOk r (Adds IsSuch old new)
+adds r IsSuch part old new such h = on_ok_weaker r (one_part IsSuch part old new such) h
 
--- what is drawn behind it begins no group
-pub then_others : (groups : List Group) (a b c : List ℕ) → Draws a groups b → Draws b [] c → Draws a groups c
-then_others groups a b c one two =
-    subst (λ (ts : List Group). Draws a ts c) (append-nil groups) (draws_on groups a b [] c one two)
+pub adds_nothing : (IsSuch : List ℕ → Type 0) (old : List ℕ) → IsSuch [] → Adds IsSuch old old
+adds_nothing IsSuch old such = one_part IsSuch [] old old such (sym (append-nil old))
 
-one_other : (part old new : List ℕ) → IsOther part → new ≡ old ++ part → Draws old [] new
-one_other part old new is e = subst (λ (t : List ℕ). Draws old [] t) (sym e) (other [] old part none is)
+-- two parts are one
+behind : (old a b now new : List ℕ) → now ≡ old ++ a → new ≡ now ++ b → new ≡ old ++ (a ++ b)
+behind old a b now new one two = two ∙ ap (λ (t : List ℕ). t ++ b) one ∙ append_assoc old a b
 
-pub draws_other : {T E : Type 0} (r : Result T E) (part old new : List ℕ) → IsOther part → OnOk r (new ≡ old ++ part)
-    → OnOk r (Draws old [] new)
-draws_other r part old new is h = on_ok_weaker r (one_other part old new is) h
+pub adds_two : {T E : Type 0} (r : Result T E) (IsSuch : List ℕ → Type 0) (a b old now new : List ℕ) → IsSuch (a ++ b) → now ≡ old ++ a
+    → OnOk r (new ≡ now ++ b) → OnOk r (Adds IsSuch old new)
+adds_two r IsSuch a b old now new such one two =
+    adds r IsSuch (a ++ b) old new such (on_ok_weaker r (behind old a b now new one) two)
 
-one_group : (g : Group) (old new : List ℕ) → new ≡ old ++ opened g.class g.title → Draws old (g ∷ []) new
-one_group g old new e = subst (λ (t : List ℕ). Draws old (g ∷ []) t) (sym e) (group [] old g none)
+-- a group, from where it is opened to where it is closed
+pub grouped : (class title inside old a b new : List ℕ) → a ≡ old ++ opened class title → b ≡ a ++ inside → new ≡ b ++ closed
+    → new ≡ old ++ group class title inside
+grouped class title inside old a b new begin within close =
+    behind old (opened class title) (inside ++ closed) a new begin (behind a inside closed b new within close)
 
-pub draws_group : {T E : Type 0} (r : Result T E) (g : Group) (old new : List ℕ) → OnOk r (new ≡ old ++ opened g.class g.title)
-    → OnOk r (Draws old (g ∷ []) new)
-draws_group r g old new h = on_ok_weaker r (one_group g old new) h
+pub adds_group : {T E : Type 0} (r : Result T E) (IsSuch : List ℕ → Type 0) (class title first second old a b c new : List ℕ)
+    → IsSuch (group class title (first ++ second)) → a ≡ old ++ opened class title → b ≡ a ++ first → c ≡ b ++ second
+    → OnOk r (new ≡ c ++ closed) → OnOk r (Adds IsSuch old new)
+adds_group r IsSuch class title first second old a b c new such begin one two close =
+    adds r IsSuch (group class title (first ++ second)) old new such
+    (on_ok_weaker r (grouped class title (first ++ second) old a c new begin (behind a first second b c one two)) close)
+
+-- a frame's kind, by the word for it
+pub told_so : (nodes : ℕ) (ends : List ℕ) (arrow : Arrow) (kind : List ℕ) (beside : Place) (word : List ℕ) → word ≡ kind
+    → beside.x ≡ lane nodes arrow.from - 200 → down ends arrow.sent ≤ beside.y
+    → MayTell nodes ends arrow kind (words_text (codes "kind") beside word)
+told_so nodes ends arrow kind beside word said left below =
+    subst (λ (t : List ℕ). MayTell nodes ends arrow kind (words_text (codes "kind") beside t)) (sym said) (told beside left below)

@@ -1,6 +1,10 @@
 pub mod Arrows
+pub mod Drawn
 pub mod Facts
 pub mod Pictures
+pub mod Places
 pub mod Shown
+pub mod Signs
+pub mod Strokes
 pub mod Titles
 pub mod Windows

@@ -1,16 +1,20 @@
--- Which marks a picture shows.
-use Rattle.std.specs.Prelude.{◌≡◌, ◌==◌, ℕ, ◌-◌, ◌<◌, ◌≤◌, nat_le, List, [], ◌∷◌, ◌++◌, length, map, slice_get, slice_index_or, Bool, true, Option, Some, None, if◌then◌else◌}
-use Rattle.diagram.specs.Titles.{Draws, mark_group}
+-- Which steps of a run a picture shows, and which marks and lines.
+use Rattle.std.specs.Prelude.{◌≡◌, ◌==◌, ◌⊎◌, ℕ, ◌-◌, ◌<◌, ◌≤◌, nat_le, List, [], ◌∷◌, ◌++◌, length, slice_get, Bool, true, Option, Some, None, if◌then◌else◌}
+use Rattle.diagram.specs.Drawn.{Draws}
+use Rattle.diagram.specs.Places.{Stands, down}
 use Rattle.diagram.specs.declared.arrows.Passage.{Passage}
 use Rattle.diagram.specs.declared.layout.Window.{Window}
+use Rattle.diagram.specs.declared.scene.Label.{Label}
 use Rattle.diagram.specs.declared.scene.Mark.{Mark}
 use Rattle.diagram.specs.declared.scene.Scene.{Scene}
 
--- some of the marks are shown, in their order; none is left out that stands at such a step
-pub data AreShown (IsSuch : ℕ → Type 0) : List Mark → List Mark → Type 0 where
+-- of some things those that are such are shown, and no others, in their order
+pub data AreShown {A : Type 0} (IsSuch : A → Type 0) : List A → List A → Type 0 where
   none : AreShown IsSuch [] []
-  shown : (marks some : List Mark) (m : Mark) → AreShown IsSuch marks some → AreShown IsSuch (marks ++ m ∷ []) (some ++ m ∷ [])
-  left_out : (marks some : List Mark) (m : Mark) → AreShown IsSuch marks some → ¬ (IsSuch m.step) → AreShown IsSuch (marks ++ m ∷ []) some
+  shown : (things some : List A) (thing : A) → AreShown IsSuch things some → IsSuch thing
+      → AreShown IsSuch (things ++ thing ∷ []) (some ++ thing ∷ [])
+  left_out : (things some : List A) (thing : A) → AreShown IsSuch things some → ¬ (IsSuch thing)
+      → AreShown IsSuch (things ++ thing ∷ []) some
 
 -- ---- the steps of a window
 -- the step at which a frame was sent
@@ -29,43 +33,73 @@ first_step s window = if window.first == 0 then 0 else sent_at s.passages.now wi
 abbrev pub last_step : Scene → Window → ℕ
 last_step s window = if nat_le (length s.frames.now) window.end then s.steps else sent_at s.passages.now (window.end - 1)
 
--- a step of the run that is one of the window's
-pub record IsBetween (s : Scene) (window : Window) (step : ℕ) : Type 0 where
-  pub there : step < s.steps
-  pub from : first_step s window ≤ step
-  pub to : step ≤ last_step s window
+abbrev pub mark_step : Mark → ℕ
+mark_step m = m.step
 
--- behind the old text a group begins for marks of the scene, in their order and each once, and for none else; none is left out that stands
--- at a step of the window
-pub record DrawsMarks (s : Scene) (window : Window) (old new : List ℕ) : Type 0 where
-  pub shown : List Mark
-  pub are : AreShown (IsBetween s window) s.marks.now shown
-  pub drawn : Draws old (map mark_group shown) new
+abbrev pub label_step : Label → ℕ
+label_step l = l.step
+
+-- one of these things is at this step, which is from the first step to the last
+pub record IsStepOf {A : Type 0} (step_of : A → ℕ) (things : List A) (first last step : ℕ) : Type 0 where
+  pub number : ℕ
+  pub thing : A
+  pub there : slice_get things number ≡ Some thing
+  pub is : step_of thing ≡ step
+  pub from : first ≤ step
+  pub to : step ≤ last
+
+-- a frame was sent or came at this step
+abbrev pub IsStepOfPassage : Passage → ℕ → Type 0
+IsStepOfPassage p step = (p.sent ≡ step) ⊎ (p.came ≡ Some step)
+
+-- one of the frames from the first to before the end
+pub record IsStepOfFrames (passages : List Passage) (first end step : ℕ) : Type 0 where
+  pub number : ℕ
+  pub from : first ≤ number
+  pub below : number < end
+  pub passage : Passage
+  pub there : slice_get passages number ≡ Some passage
+  pub is : IsStepOfPassage passage step
+
+-- a step of which a window shows something
+pub data Tells (s : Scene) (window : Window) (step : ℕ) : Type 0 where
+  frame : IsStepOfFrames s.passages.now window.first window.end step → Tells s window step
+  mark : IsStepOf mark_step s.marks.now (first_step s window) (last_step s window) step → Tells s window step
+  label : IsStepOf label_step s.labels.now (first_step s window) (last_step s window) step → Tells s window step
 
 -- ---- the steps of a layout
--- it has a place for a step
-abbrev pub Stands : List ℕ → ℕ → Type 0
-Stands ends step = 0 < slice_index_or ends step 0
+-- each step of the run has a place of which the window shows something, and no other one. A later one stands no higher
+pub record IsLayout (s : Scene) (window : Window) (ends : List ℕ) : Type 0 where
+  pub stands : (step : ℕ) → step < s.steps → Tells s window step → Stands ends step
+  pub tells : (step : ℕ) → Stands ends step → Tells s window step
+  pub in_order : (i j : ℕ) → i ≤ j → Stands ends i → Stands ends j → down ends i ≤ down ends j
 
-pub record DrawsStanding (ends : List ℕ) (marks : List Mark) (old new : List ℕ) : Type 0 where
-  pub shown : List Mark
-  pub are : AreShown (Stands ends) marks shown
-  pub drawn : Draws old (map mark_group shown) new
+-- behind the old text those things are drawn whose steps have a place
+pub record DrawsStanding {A : Type 0} (step_of : A → ℕ) (IsDrawn : A → List ℕ → Type 0) (ends : List ℕ) (things : List A) (old new : List ℕ)
+    : Type 0 where
+  pub shown : List A
+  pub are : AreShown (λ thing. Stands ends (step_of thing)) things shown
+  pub drawn : Draws IsDrawn old shown new
 
--- it has one for each step of the window at which a mark stands
-pub record MarksStand (s : Scene) (window : Window) (ends : List ℕ) : Type 0 where
-  pub each : (i : ℕ) (m : Mark) → slice_get s.marks.now i ≡ Some m → IsBetween s window m.step → Stands ends m.step
+-- ---- flags of steps
+abbrev pub IsSet : List Bool → ℕ → Type 0
+IsSet flags step = slice_get flags step ≡ Some true
 
--- a flag is set for each of these steps
-pub record AreFlagged (marks : List Mark) (first last : ℕ) (flags : List Bool) : Type 0 where
-  pub each : (i : ℕ) (m : Mark) → slice_get marks i ≡ Some m → m.step < length flags → first ≤ m.step → m.step ≤ last
-      → slice_get flags m.step ≡ Some true
-
--- one that was set is set still
-pub record KeepsFlags (old new : List Bool) : Type 0 where
+-- the flags of such steps are set beside those that were set, and no others
+pub record Sets (IsSuch : ℕ → Type 0) (old new : List Bool) : Type 0 where
   pub long : length new ≡ length old
-  pub kept : (step : ℕ) → slice_get old step ≡ Some true → slice_get new step ≡ Some true
+  pub kept : (step : ℕ) → IsSet old step → IsSet new step
+  pub set : (step : ℕ) → step < length old → IsSuch step → IsSet new step
+  pub only : (step : ℕ) → IsSet new step → IsSet old step ⊎ IsSuch step
 
--- there is a place where the flag is set
+-- this very step, if it is between these
+pub record IsJust (this first last step : ℕ) : Type 0 where
+  pub is : this ≡ step
+  pub from : first ≤ step
+  pub to : step ≤ last
+
+-- the steps whose flags are set have places, one below the other, and no others have
 pub record StandWhereSet (flags : List Bool) (ends : List ℕ) : Type 0 where
-  pub each : (step : ℕ) → slice_get flags step ≡ Some true → Stands ends step
+  pub stands : (step : ℕ) → IsSet flags step → Stands ends step
+  pub set : (step : ℕ) → Stands ends step → IsSet flags step
+  pub in_order : (i j : ℕ) → i ≤ j → Stands ends i → Stands ends j → down ends i ≤ down ends j

@@ -1,19 +1,18 @@
 //! The arrows of a picture, and what is told of them.
 
-#![tactic(auto, using(crate::proofs::Drawings::others_not, crate::proofs::Drawings::then_others))]
-
-ghost use Rattle.std.specs.Prelude.{◌≡◌, [], ◌∷◌, ◌++◌, ◌≤◌, ◌↔◌, IsTrue, OnOk, length, map};
-ghost use Rattle.diagram.specs.Facts.{facts_of};
-ghost use Rattle.diagram.specs.Pictures.{AreThere, DrawsFrames, IsThere, IsWhole, fate_text, group_in, title_text};
-ghost use Rattle.diagram.specs.Titles.{Draws, frame_group};
+ghost use Rattle.std.specs.Prelude.{◌≡◌, ◌++◌, ◌≤◌, ◌↔◌, IsTrue, OnOk, codes, length};
+ghost use Rattle.picture.specs.Elements.{opened};
+ghost use Rattle.diagram.specs.Drawn.{Adds, Draws, IsFrame, IsTold, MayTell};
+ghost use Rattle.diagram.specs.Facts.{facts_of, kind_text};
+ghost use Rattle.diagram.specs.Pictures.{AreThere, DrawsFrames, IsThere, IsWhole};
+ghost use Rattle.diagram.specs.Titles.{fate_text, title_text};
 
 use super::arrows::{Arrow, Fate, list_arrows};
 use super::colors::color_of;
 use super::facts::{Facts, facts_of, kind_name, push_frame};
 use super::layout::{Layout, Window};
-use super::others;
+use super::places::lane;
 use super::scene::Scene;
-use super::space_time::lane;
 use super::strokes::draw_arrow;
 use picture::{Picture, Place};
 use std::alloc::Global;
@@ -34,7 +33,7 @@ pub(crate) fn draw_arrows(
 ) -> io::Result<()>
     requires in_order { window.first ≤ window.end }
     requires there { window.end ≤ length scene.now.frames.now }
-    ensures { OnOk result (IsWhole scene.now → DrawsFrames scene.now window picture.old picture.new) }
+    ensures { OnOk result (IsWhole scene.now → DrawsFrames scene.now window layout.now.ends.items picture.old picture.new) }
 {
     if !reaches(scene, window.end) {
         return Ok(());
@@ -66,7 +65,7 @@ fn draw_all(
     layout: &Layout,
 ) -> io::Result<()>
     ensures { OnOk result (AreThere scene.now.frames.now arrows.now
-        → Draws picture.old (map (group_in scene.now.frames.now) arrows.now) picture.new) }
+        → Draws (IsFrame scene.now layout.now.ends.items) picture.old arrows.now picture.new) }
 {
     let mut ballots = Vec::new(alloc);
     let mut free = [0; 7];
@@ -95,7 +94,7 @@ fn draw_next(
     free: &mut [u32; 7],
 ) -> io::Result<()>
     ensures { OnOk result (IsThere scene.now.frames.now arrow.now
-        → Draws picture.old (group_in scene.now.frames.now arrow.now ∷ []) picture.new) }
+        → Adds (IsFrame scene.now layout.now.ends.items arrow.now) picture.old picture.new) }
 {
     match scene.frames.get(arrow.frame) {
         Some(frame) => draw_sent(
@@ -123,15 +122,14 @@ fn draw_sent(
     ballots: &mut Vec<Ballot>,
     free: &mut [u32; 7],
 ) -> io::Result<()>
-    ensures { OnOk result (Draws picture.old (frame_group (title_text arrow.now (facts_of frame.now.message)) ∷ []) picture.new) }
+    ensures { OnOk result (Adds (IsTold nodes layout.now.ends.items arrow.now (facts_of frame.now.message)) picture.old picture.new) }
 {
     let facts = facts_of(&frame.open(alloc)?.message);
     let color = color_of(ballots, facts.ballot)?;
-    draw_frame(alloc, picture, nodes, arrow, &facts, color, layout)?;
-    draw_kind(picture, nodes, arrow, facts.kind, layout, free)
+    draw_frame(alloc, picture, nodes, arrow, &facts, color, layout, free)
 }
 
-/// The arrow of a frame, under a title that says what the frame is.
+/// The arrow of a frame, under a title that says what the frame is, and the frame's kind beside it.
 fn draw_frame(
     alloc: Global,
     picture: &mut Picture,
@@ -140,17 +138,19 @@ fn draw_frame(
     facts: &Facts,
     color: usize,
     layout: &Layout,
+    free: &mut [u32; 7],
 ) -> io::Result<()>
-    ensures { OnOk result (Draws picture.old (frame_group (title_text arrow.now facts.now) ∷ []) picture.new) }
+    ensures { OnOk result (Adds (IsTold nodes layout.now.ends.items arrow.now facts.now) picture.old picture.new) }
 {
     open_frame(alloc, picture, arrow, facts)?;
     draw_arrow(picture, nodes, arrow, color, layout)?;
-    others::close(picture)
+    picture.close()?;
+    draw_kind(picture, nodes, arrow, facts.kind, layout, free)
 }
 
 /// The group of a frame begins, with its title.
 fn open_frame(alloc: Global, picture: &mut Picture, arrow: &Arrow, facts: &Facts) -> io::Result<()>
-    ensures { OnOk result (Draws picture.old (frame_group (title_text arrow.now facts.now) ∷ []) picture.new) }
+    ensures { OnOk result (picture.new ≡ picture.old ++ opened (codes "frame") (title_text arrow.now facts.now)) }
 {
     let mut title = Vec::new(alloc);
     push_frame(&mut title, arrow.frame, arrow.from, arrow.to, facts)?;
@@ -167,7 +167,7 @@ fn draw_kind(
     layout: &Layout,
     free: &mut [u32; 7],
 ) -> io::Result<()>
-    ensures { OnOk result (Draws picture.old [] picture.new) }
+    ensures { OnOk result (Adds (MayTell nodes layout.now.ends.items arrow.now (kind_text kind)) picture.old picture.new) }
 {
     let node = arrow.from.value();
     let y = layout.place_of(arrow.sent);
@@ -182,7 +182,7 @@ fn draw_kind(
         x: lane(nodes, node).saturating_sub(200),
         y: y.saturating_add(600),
     };
-    others::words(picture, b"kind", beside, kind_name(kind).as_bytes())
+    picture.text(b"kind", beside, kind_name(kind).as_bytes())
 }
 
 /// What became of a frame, behind what it is.

@@ -1,5 +1,8 @@
 //! The classes of arrows: how a line looks, in the colour of its frame's ballot.
 
+ghost use Rattle.std.specs.Prelude.{◌≡◌};
+ghost use Rattle.diagram.specs.Strokes.{came_class, lost_class, waits_class};
+
 use std::io;
 use synod::Ballot;
 
@@ -18,7 +21,9 @@ pub(crate) fn color_of(ballots: &mut Vec<Ballot>, ballot: Option<Ballot>) -> io:
     }
 }
 
-pub(crate) fn whole_class(color: usize) -> &'static [u8] {
+pub(crate) fn came_class(color: usize) -> &'static [u8]
+    ensures { result.now ≡ came_class color }
+{
     match color {
         0 => b"came b0",
         1 => b"came b1",
@@ -32,7 +37,9 @@ pub(crate) fn whole_class(color: usize) -> &'static [u8] {
     }
 }
 
-pub(crate) fn lost_class(color: usize) -> &'static [u8] {
+pub(crate) fn lost_class(color: usize) -> &'static [u8]
+    ensures { result.now ≡ lost_class color }
+{
     match color {
         0 => b"lost b0",
         1 => b"lost b1",
@@ -46,7 +53,9 @@ pub(crate) fn lost_class(color: usize) -> &'static [u8] {
     }
 }
 
-pub(crate) fn waits_class(color: usize) -> &'static [u8] {
+pub(crate) fn waits_class(color: usize) -> &'static [u8]
+    ensures { result.now ≡ waits_class color }
+{
     match color {
         0 => b"waits b0",
         1 => b"waits b1",

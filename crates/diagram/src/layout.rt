@@ -1,7 +1,8 @@
 //! Which frames are drawn, and how high each step stands.
 
-ghost use Rattle.std.specs.Prelude.{◌≡◌, ◌+◌, ◌<◌, ◌≤◌, length, slice_index_or, slice_set, true, IfOk};
-ghost use Rattle.diagram.specs.Shown.{AreFlagged, KeepsFlags, MarksStand, StandWhereSet, first_step, last_step, sent_at};
+ghost use Rattle.std.specs.Prelude.{◌≡◌, ◌+◌, ◌<◌, ◌≤◌, length, slice_index_or, if◌then◌else◌, IfOk};
+ghost use Rattle.diagram.specs.Places.{down};
+ghost use Rattle.diagram.specs.Shown.{IsJust, IsLayout, IsStepOf, IsStepOfFrames, IsStepOfPassage, Sets, StandWhereSet, first_step, label_step, last_step, mark_step, sent_at};
 ghost use Rattle.diagram.specs.Windows.{IsChosen, IsWindowOf};
 
 use super::arrows::Passage;
@@ -84,7 +85,8 @@ fn fit_page(alloc: Global, scene: &Scene, first: usize, most: usize) -> Result<W
 
 /// How high the steps stand of which the window shows something.
 pub(crate) fn lay_out(alloc: Global, scene: &Scene, window: Window) -> Result<Layout, AllocError>
-    ensures { IfOk result (λ layout. MarksStand scene.now window layout.ends.items) }
+    requires { window.first ≤ window.end }
+    ensures { IfOk result (λ layout. IsLayout scene.now window layout.ends.items) }
 {
     let mut texts = vec![in alloc; 0u32; scene.steps.saturating_add(1)]?;
     let mut shown = vec![in alloc; false; scene.steps.saturating_add(1)]?;
@@ -97,13 +99,10 @@ pub(crate) fn lay_out(alloc: Global, scene: &Scene, window: Window) -> Result<La
 
 /// Every step between these at which a mark stands is shown.
 fn show_marks(shown: &mut Vec<bool>, scene: &Scene, first: usize, last: usize)
-    ensures long { length shown.new.items ≡ length shown.old.items }
-    ensures flagged { AreFlagged scene.now.marks.now first last shown.new.items }
+    ensures { Sets (IsStepOf mark_step scene.now.marks.now first last) shown.old.items shown.new.items }
 {
     for mark in scene.marks {
-        if first <= mark.step && mark.step <= last {
-            set_flag(shown, mark.step);
-        }
+        show_between(shown, mark.step, first, last);
     }
 }
 
@@ -115,29 +114,53 @@ fn show_labels(
     first: usize,
     last: usize,
 )
-    ensures keeps { KeepsFlags shown.old.items shown.new.items }
-    ensures long { length texts.new.items ≡ length texts.old.items }
+    ensures shown { Sets (IsStepOf label_step scene.now.labels.now first last) shown.old.items shown.new.items }
+    ensures texts { length texts.new.items ≡ length texts.old.items }
 {
     for label in scene.labels {
-        if first <= label.step && label.step <= last {
-            set_flag(shown, label.step);
-            add_text(texts, label.step);
-        }
+        let is_shown = show_between(shown, label.step, first, last);
+        add_text(texts, label.step, is_shown);
     }
 }
 
 /// Every step at which a frame of the window was sent or came is shown.
 fn show_passages(shown: &mut Vec<bool>, scene: &Scene, window: Window)
-    ensures { length shown.new.items ≡ length shown.old.items }
+    requires { window.first ≤ window.end }
+    ensures { Sets (IsStepOfFrames scene.now.passages.now window.first window.end) shown.old.items shown.new.items }
 {
     for number in window.first..window.end {
-        if let Some(passage) = scene.passages.get(number) {
-            set_flag(shown, passage.sent);
-            if let Some(step) = passage.came {
-                set_flag(shown, step);
-            }
-        }
+        show_frame(shown, scene.passages, number);
     }
+}
+
+/// The steps at which this frame was sent and came are shown.
+fn show_frame(shown: &mut Vec<bool>, passages: &[Passage], number: usize)
+    ensures { Sets (IsStepOfFrames passages.now number (number + 1)) shown.old.items shown.new.items }
+{
+    if let Some(passage) = passages.get(number) {
+        show_passage(shown, *passage);
+    }
+}
+
+/// The steps at which a frame was sent and came are shown.
+fn show_passage(shown: &mut Vec<bool>, passage: Passage)
+    ensures { Sets (IsStepOfPassage passage) shown.old.items shown.new.items }
+{
+    set_flag(shown, passage.sent);
+    if let Some(step) = passage.came {
+        set_flag(shown, step);
+    }
+}
+
+/// Shows a step that is between these. Whether it is.
+fn show_between(shown: &mut Vec<bool>, step: usize, first: usize, last: usize) -> bool
+    ensures { Sets (IsJust step first last) shown.old.items shown.new.items }
+{
+    if first <= step && step <= last {
+        set_flag(shown, step);
+        return true;
+    }
+    false
 }
 
 /// The first and the last step of which labels and marks are drawn: those between which the window's frames were sent, and all that is
@@ -170,17 +193,18 @@ fn sent_at(passages: &[Passage], number: usize) -> usize
 }
 
 fn set_flag(flags: &mut Vec<bool>, index: usize)
-    ensures { flags.new.items ≡ slice_set flags.old.items index true }
+    ensures { Sets (λ step. index ≡ step) flags.old.items flags.new.items }
 {
     if index < flags.len() {
         flags[index] = true;
     }
 }
 
-fn add_text(texts: &mut Vec<u32>, index: usize)
+/// Counts a line of text, if its step is shown.
+fn add_text(texts: &mut Vec<u32>, index: usize, is_shown: bool)
     ensures { length texts.new.items ≡ length texts.old.items }
 {
-    if index < texts.len() {
+    if is_shown && index < texts.len() {
         texts[index] = texts[index].saturating_add(1);
     }
 }
@@ -207,8 +231,7 @@ fn stack(alloc: Global, texts: Vec<u32>, shown: Vec<bool>) -> Result<Layout, All
 
 /// How far it is down to the end of a step that begins there, if it is shown.
 fn stand_below(height: u32, is_shown: bool, row: u32) -> u32
-    requires { 0 < height }
-    ensures { 0 < result }
+    ensures { height ≤ result }
 {
     if is_shown {
         height.saturating_add(row)
@@ -219,8 +242,7 @@ fn stand_below(height: u32, is_shown: bool, row: u32) -> u32
 
 /// Where a step ends that is shown; 0 for another.
 fn place_if(is_shown: bool, height: u32) -> u32
-    requires { 0 < height }
-    ensures { is_shown ≡ true → 0 < result }
+    ensures { result ≡ (if is_shown then height else 0) }
 {
     if is_shown { height } else { 0 }
 }
@@ -253,13 +275,15 @@ fn bare_row(texts: &[u32], shown: &[bool]) -> u32 {
 impl Layout {
     /// Where a step stands.
     pub fn place_of(&self, step: usize) -> u32
-        ensures { result ≡ slice_index_or self.now.ends.items step 0 }
+        ensures { result ≡ down self.now.ends.items step }
     {
         self.ends.get(step).copied().unwrap_or(0)
     }
 
     /// Where the line of text stands that has so many others of its step before it.
-    pub fn text_place(&self, step: usize, before: u32) -> u32 {
+    pub fn text_place(&self, step: usize, before: u32) -> u32
+        ensures { result ≤ down self.now.ends.items step }
+    {
         let count = self.texts.get(step).copied().unwrap_or(0);
         let below = count.saturating_sub(before.saturating_add(1));
         self.place_of(step)

@@ -9,7 +9,7 @@ mod arrows;
 mod colors;
 mod facts;
 mod layout;
-mod others;
+mod places;
 mod scene;
 mod signs;
 mod space_time;

@@ -11,6 +11,8 @@ pub enum Sign {
     Learnt,
     Replied,
     Answered,
+    /// A frame came while the node was down.
+    Lost,
     Refused,
     Stopped,
     Restarted,

@@ -1,15 +1,16 @@
 //! The space-time diagram: lanes, and the words beside them.
 
-#![tactic(auto, using(crate::proofs::Drawings::others_not, crate::proofs::Drawings::then_others))]
-
-ghost use Rattle.std.specs.Prelude.{[], IfOk, OnOk};
+ghost use Rattle.std.specs.Prelude.{◌≡◌, ◌++◌, IfOk, OnOk, length, take};
+ghost use Rattle.std.specs.List.{range_with_len};
+ghost use Rattle.diagram.specs.Drawn.{Adds, Draws, IsHead, IsLane, IsLine, heading};
 ghost use Rattle.diagram.specs.Pictures.{ShowsAsked};
-ghost use Rattle.diagram.specs.Titles.{Draws};
+ghost use Rattle.diagram.specs.Places.{Stands};
+ghost use Rattle.diagram.specs.Shown.{DrawsStanding, label_step};
 
 use super::arrow_lines::draw_arrows;
 use super::layout::{Layout, Window, choose_window, lay_out};
-use super::others;
-use super::scene::Scene;
+use super::places::lane;
+use super::scene::{Label, Scene};
 use super::signs::draw_marks;
 use picture::{Picture, Place};
 use std::alloc::Global;
@@ -17,11 +18,6 @@ use std::io::{self, Write};
 
 /// The width of a page of format A3, in points.
 const WIDTH: u32 = 842;
-
-/// Where the lane of node 0 stands, and the last one's distance from it, in hundredths of a point. Signs stand right of it.
-const FIRST_LANE: u32 = 28_000;
-
-const LANES: u32 = 46_000;
 
 /// A schedule's line is cut after so many bytes.
 const LONGEST_TEXT: usize = 56;
@@ -33,12 +29,12 @@ const STYLE: &[u8] =
 line,polyline{fill:none;stroke-width:0.8}.lane{stroke:#bbb}.lost,.waits{stroke-dasharray:3 2}.lost{opacity:0.7}\
 .b0{stroke:#1f77b4}.b1{stroke:#d62728}.b2{stroke:#2ca02c}.b3{stroke:#9467bd}.b4{stroke:#ff7f0e}.b5{stroke:#17becf}\
 .b6{stroke:#8c564b}.b7{stroke:#e377c2}.none{stroke:#7f7f7f}.sign{stroke:#222;stroke-width:0.5;fill:#fff}\
-.learnt{fill:#2ca02c}.replied{fill:#1f77b4}.answered{fill:#17becf}.refused{fill:#ff7f0e}.stopped{fill:#d62728}.restored{fill:#9467bd}";
+.learnt{fill:#2ca02c}.replied{fill:#1f77b4}.answered{fill:#17becf}.missed{fill:#bbb}.refused{fill:#ff7f0e}.stopped{fill:#d62728}.restored{fill:#9467bd}";
 
 /// What the signs and the lines mean.
 const MEANINGS: &[u8] =
     b"dashed: dropped (two thirds of the way) or waiting; a colour for each ballot, grey without one; circles: learnt (green), \
-replied (blue), answered (light blue); squares: refused (orange), stopped (red), restored (violet), restarted (white)";
+replied (blue), answered (light blue); squares: refused (orange), stopped (red), lost as the node was down (grey), restored (violet), restarted (white)";
 
 /// The picture of the frames from number `from`, or the first, to number `to`, or the last; of more than a picture shows, the first ones.
 /// It names those that it shows.
@@ -66,64 +62,61 @@ pub fn draw(
 
 /// What the picture shows.
 fn draw_head(alloc: Global, picture: &mut Picture, scene: &Scene, window: Window) -> io::Result<()>
-    ensures { OnOk result (Draws picture.old [] picture.new) }
+    ensures { OnOk result (Adds (IsHead (length scene.now.frames.now) scene.now.nodes window) picture.old picture.new) }
 {
-    let (count, nodes) = (scene.frames.len(), scene.nodes);
     let mut text = Vec::new(alloc);
+    push_heading(&mut text, window, scene.frames.len(), scene.nodes)?;
+    picture.text(b"head", Place { x: 1_000, y: 1_400 }, text.as_slice())?;
+    picture.text(b"note", Place { x: 1_000, y: 2_400 }, MEANINGS)
+}
+
+/// Adds which frames are shown, of how many.
+fn push_heading(text: &mut Vec<u8>, window: Window, frames: usize, nodes: u8) -> io::Result<()>
+    ensures { OnOk result (text.new.items ≡ text.old.items ++ heading window frames nodes) }
+{
     if window.first < window.end {
         let (first, last) = (window.first, window.end - 1);
-        write!(
-            &mut text,
-            "frames {first} to {last} of {count}, {nodes} nodes"
-        )?;
+        write!(text, "frames {first} to {last} of {frames}, {nodes} nodes")
     } else {
-        write!(&mut text, "no frame of {count}, {nodes} nodes")?;
+        write!(text, "no frame of {frames}, {nodes} nodes")
     }
-    others::words(
-        picture,
-        b"head",
-        Place { x: 1_000, y: 1_400 },
-        text.as_slice(),
-    )?;
-    others::words(picture, b"note", Place { x: 1_000, y: 2_400 }, MEANINGS)
 }
 
 /// A lane for each node, from top to bottom.
 fn draw_lanes(alloc: Global, picture: &mut Picture, nodes: u8, height: u32) -> io::Result<()>
-    ensures { OnOk result (Draws picture.old [] picture.new) }
+    ensures { OnOk result (Draws (IsLane nodes) picture.old (range_with_len 0 nodes) picture.new) }
 {
     for node in 0..nodes {
-        let x = lane(nodes, node);
-        let mut name = Vec::new(alloc);
-        write!(&mut name, "node {node}")?;
-        others::words(
-            picture,
-            b"head",
-            Place {
-                x: x.saturating_sub(1_200),
-                y: 3_600,
-            },
-            name.as_slice(),
-        )?;
-        others::line(
-            picture,
-            b"lane",
-            Place { x, y: 3_800 },
-            Place { x, y: height },
-        )?;
+        draw_lane(alloc, picture, nodes, node, height)?;
     }
     Ok(())
 }
 
-/// Where the lane of a node stands.
-pub(crate) fn lane(nodes: u8, node: u8) -> u32 {
-    let gaps = u32::from(nodes).saturating_sub(1).max(1);
-    FIRST_LANE + u32::from(node) * LANES / gaps
+/// The lane of a node, and the node's number above it.
+fn draw_lane(
+    alloc: Global,
+    picture: &mut Picture,
+    nodes: u8,
+    node: u8,
+    height: u32,
+) -> io::Result<()>
+    ensures { OnOk result (Adds (IsLane nodes node) picture.old picture.new) }
+{
+    let x = lane(nodes, node);
+    let mut name = Vec::new(alloc);
+    write!(&mut name, "node {node}")?;
+    let above = Place {
+        x: x.saturating_sub(1_200),
+        y: 3_600,
+    };
+    picture.text(b"head", above, name.as_slice())?;
+    picture.line(b"lane", Place { x, y: 3_800 }, Place { x, y: height })
 }
 
 /// The schedule's lines, beside the steps at which they begin.
 fn draw_labels(picture: &mut Picture, scene: &Scene, layout: &Layout) -> io::Result<()>
-    ensures { OnOk result (Draws picture.old [] picture.new) }
+    ensures { let ends = layout.now.ends.items in
+        OnOk result (DrawsStanding label_step (IsLine ends) ends scene.now.labels.now picture.old picture.new) }
 {
     let mut last = None;
     let mut before = 0u32;
@@ -134,17 +127,28 @@ fn draw_labels(picture: &mut Picture, scene: &Scene, layout: &Layout) -> io::Res
             0
         };
         last = Some(label.step);
-        let y = layout.text_place(label.step, before);
-        if layout.place_of(label.step) > 0 {
-            let text = cut(label.text.as_slice());
-            others::words(picture, b"line", Place { x: 1_000, y }, text)?;
-        }
+        draw_label(picture, label, before, layout)?;
     }
     Ok(())
 }
 
+/// A line, if its step is shown. So many of its step stand above it.
+fn draw_label(picture: &mut Picture, label: &Label, before: u32, layout: &Layout) -> io::Result<()>
+    ensures stands { let ends = layout.now.ends.items in
+        OnOk result (Stands ends label.now.step → Adds (IsLine ends label.now) picture.old picture.new) }
+    ensures left_out { OnOk result (¬ (Stands layout.now.ends.items label.now.step) → picture.new ≡ picture.old) }
+{
+    if layout.place_of(label.step) == 0 {
+        return Ok(());
+    }
+    let y = layout.text_place(label.step, before);
+    picture.text(b"line", Place { x: 1_000, y }, cut(label.text.as_slice()))
+}
+
 /// The first bytes of a text.
-fn cut(text: &[u8]) -> &[u8] {
+fn cut(text: &[u8]) -> &[u8]
+    ensures { result.now ≡ take LONGEST_TEXT text.now }
+{
     match text.split_at_checked(LONGEST_TEXT) {
         Some((first, _)) => first,
         None => text,

@@ -1,15 +1,13 @@
 //! The line of a frame, by what became of it.
 
-#![tactic(auto, using(crate::proofs::Drawings::others_not, crate::proofs::Drawings::then_others))]
-
-ghost use Rattle.std.specs.Prelude.{[], OnOk};
-ghost use Rattle.diagram.specs.Titles.{Draws};
+ghost use Rattle.std.specs.Prelude.{◌≡◌, ◌<◌, ◌^◌, OnOk};
+ghost use Rattle.diagram.specs.Drawn.{Adds};
+ghost use Rattle.diagram.specs.Strokes.{IsStroke, aim};
 
 use super::arrows::{Arrow, Fate};
-use super::colors::{lost_class, waits_class, whole_class};
+use super::colors::{came_class, lost_class, waits_class};
 use super::layout::Layout;
-use super::others;
-use super::space_time::lane;
+use super::places::{lane, place};
 use picture::{Picture, Place};
 use std::io;
 
@@ -24,57 +22,88 @@ pub(crate) fn draw_arrow(
     color: usize,
     layout: &Layout,
 ) -> io::Result<()>
-    ensures { OnOk result (Draws picture.old [] picture.new) }
+    ensures { OnOk result (Adds (IsStroke nodes layout.now.ends.items arrow.now color) picture.old picture.new) }
 {
-    let from = lane(nodes, arrow.from.value());
-    let to = lane(nodes, arrow.to.value());
-    let sent = layout.place_of(arrow.sent);
-    let begin = Place { x: from, y: sent };
     match arrow.fate {
-        Fate::Came(step) => {
-            let end = Place {
-                x: to,
-                y: layout.place_of(step),
-            };
-            draw_whole(picture, whole_class(color), begin, end)
-        }
-        Fate::Dropped => {
-            let end = Place {
-                x: from.saturating_add(aim(from, to).saturating_mul(2)) / 3,
-                y: sent.saturating_add(300),
-            };
-            others::line(picture, lost_class(color), begin, end)
-        }
-        Fate::Waits => {
-            let end = Place {
-                x: aim(from, to),
-                y: sent.saturating_add(450),
-            };
-            others::arrow(picture, waits_class(color), begin, end)
-        }
+        Fate::Came(step) => draw_whole(picture, nodes, arrow, step, color, layout),
+        Fate::Dropped => draw_lost(picture, nodes, arrow, color, layout),
+        Fate::Waits => draw_waiting(picture, nodes, arrow, color, layout),
     }
+}
+
+/// The line of a frame that came at this step. One to the node itself comes back to the lane.
+fn draw_whole(
+    picture: &mut Picture,
+    nodes: u8,
+    arrow: &Arrow,
+    step: usize,
+    color: usize,
+    layout: &Layout,
+) -> io::Result<()>
+    requires { arrow.now.fate ≡ Fate.Came step }
+    ensures { OnOk result (Adds (IsStroke nodes layout.now.ends.items arrow.now color) picture.old picture.new) }
+{
+    let begin = place(nodes, arrow.from, layout, arrow.sent);
+    let end = place(nodes, arrow.to, layout, step);
+    let class = came_class(color);
+    if arrow.from.value() != arrow.to.value() {
+        return picture.arrow(class, begin, end);
+    }
+    let bend = Place {
+        x: aim(nodes, arrow),
+        y: begin.y.midpoint(end.y),
+    };
+    picture.line(class, begin, bend)?;
+    picture.arrow(class, bend, end)
+}
+
+/// The line of a frame that was dropped.
+fn draw_lost(
+    picture: &mut Picture,
+    nodes: u8,
+    arrow: &Arrow,
+    color: usize,
+    layout: &Layout,
+) -> io::Result<()>
+    requires { arrow.now.fate ≡ Fate.Dropped }
+    ensures { OnOk result (Adds (IsStroke nodes layout.now.ends.items arrow.now color) picture.old picture.new) }
+{
+    let begin = place(nodes, arrow.from, layout, arrow.sent);
+    let end = Place {
+        x: (lane(nodes, arrow.from.value()) + 2 * aim(nodes, arrow)) / 3,
+        y: begin.y.saturating_add(300),
+    };
+    picture.line(lost_class(color), begin, end)
+}
+
+/// The line of a frame that waits.
+fn draw_waiting(
+    picture: &mut Picture,
+    nodes: u8,
+    arrow: &Arrow,
+    color: usize,
+    layout: &Layout,
+) -> io::Result<()>
+    requires { arrow.now.fate ≡ Fate.Waits }
+    ensures { OnOk result (Adds (IsStroke nodes layout.now.ends.items arrow.now color) picture.old picture.new) }
+{
+    let begin = place(nodes, arrow.from, layout, arrow.sent);
+    let end = Place {
+        x: aim(nodes, arrow),
+        y: begin.y.saturating_add(450),
+    };
+    picture.arrow(waits_class(color), begin, end)
 }
 
 /// Where the line of a frame goes: to its receiver's lane, and beside it where that is its sender's.
-fn aim(from: u32, to: u32) -> u32 {
-    if from == to {
-        from.saturating_add(BEND)
-    } else {
-        to
-    }
-}
-
-/// The line of a frame that came. One to the node itself comes back to the lane.
-fn draw_whole(picture: &mut Picture, class: &[u8], begin: Place, end: Place) -> io::Result<()>
-    ensures { OnOk result (Draws picture.old [] picture.new) }
+fn aim(nodes: u8, arrow: &Arrow) -> u32
+    ensures there { result ≡ aim nodes arrow.now }
+    ensures near { result < 2 ^ 25 }
 {
-    if begin.x != end.x {
-        return others::arrow(picture, class, begin, end);
+    let (from, to) = (arrow.from.value(), arrow.to.value());
+    if from == to {
+        lane(nodes, from) + BEND
+    } else {
+        lane(nodes, to)
     }
-    let bend = Place {
-        x: aim(begin.x, end.x),
-        y: begin.y.midpoint(end.y),
-    };
-    others::line(picture, class, begin, bend)?;
-    others::arrow(picture, class, bend, end)
 }

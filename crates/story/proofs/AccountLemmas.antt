@@ -1,9 +1,8 @@
 -- What is written so far.
 use Rattle.std.proofs.Common.{◌≡◌, ℕ, ◌+◌, ◌==◌, ◌<◌, ◌≤◌, List, [], ◌∷◌, ◌++◌, Bool, true, false, Option, Some, None, length, slice_get, take, get_or, if◌then◌else◌, sym, subst, arith}
 use Rattle.std.proofs.lemmas.List.{take_more}
-use Rattle.world.specs.Seen.{world_of}
-use Rattle.story.specs.Accounts.{AreWritten, next, and_frame, at_line, entry_lines, item_lines, line_lines, place_after, sent_lines}
-use Rattle.story.specs.Happenings.{Happening, happening}
+use Rattle.story.specs.Accounts.{AreWritten, and_frame, at_line, entry_lines, happening_at, item_lines, line_lines, next, place_after, sent_lines}
+use Rattle.story.specs.Happenings.{Happening}
 use Rattle.story.specs.Lines.{AddsLines, Saying, none, text_at}
 use Rattle.story.specs.Saying.{count_said, item_said, line_said}
 use Rattle.story.specs.declared.account.Manner.{Manner}
@@ -88,4 +87,4 @@ pub not_told : (m : Manner) (l : Ledger) (texts : List (List ℕ)) (place : Plac
     → m.frames ≡ false → AddsLines text (entry_lines m l texts place e) text
 not_told m l texts place e k text is by_number =
     subst (λ (x : Entry). AddsLines text (entry_lines m l texts place x) text) (sym is)
-    (if_not m.frames (item_lines m.form place.line (happening (world_of l.world) (Frame k))) text by_number)
+    (if_not m.frames (item_lines m.form place.line (happening_at l place (Frame k))) text by_number)

@@ -47,8 +47,9 @@ module _ {S : Type 0} (storages : Ghosts (Script S)) where
         → AreNoted storages others before start (taken ++ line ∷ []) done after fault new
     line_noted taken line begins begun done steps at after now same new fault led is_begun is_at is_now is_done ends noted =
         let its_end : LineEndsBy storages line now fault new = subst (λ (w : WorldState S). LineEndsBy storages line w fault new) is_now ends in
-        let its_steps : LineIsNoted storages line.action fault now noted.more new =
-        subst (λ (w : WorldState S). LineIsNoted storages line.action fault w noted.more new) is_now noted.noted in
+        let its_steps : LineIsNoted storages line.action fault now steps noted.more new =
+        subst (λ (ss : List AStep). LineIsNoted storages line.action fault now ss noted.more new) is_at
+        (subst (λ (w : WorldState S). LineIsNoted storages line.action fault w at noted.more new) is_now noted.noted) in
         let begins_now : List LineBegin = begins ++ record { number = line.number; step = length steps } ∷ [] in
         let all : AreNoted storages others before start (taken ++ line ∷ []) begins_now (steps ++ noted.more) fault new =
         next taken begins steps now line noted.more fault new led its_end its_steps in

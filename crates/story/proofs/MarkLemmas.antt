@@ -1,7 +1,8 @@
 -- Marks, entry by entry.
 use Rattle.std.proofs.Common.{◌≡◌, ℕ, ◌+◌, ◌<◌, List, [], ◌∷◌, ◌++◌, length, map, take, get_or, sym, subst}
 use Rattle.std.proofs.lemmas.List.{take_more}
-use Rattle.story.specs.Marking.{AreMarked, Marking, entry_marks, marking, next, step_at}
+use Rattle.story.specs.Happenings.{step_at}
+use Rattle.story.specs.Marking.{AreMarked, Marking, entry_marks, marking, next}
 use Rattle.story.specs.declared.entries.Entry.{Entry}
 use Rattle.story.specs.declared.ledger.Ledger.{Ledger}
 use Rattle.story.specs.declared.marks.Marker.{Marker}

@@ -11,11 +11,11 @@ use Rattle.schedule.specs.declared.action.Action.TheVariants.{Step, Flush, Round
 use Rattle.schedule.specs.declared.replay_fault.ReplayFault.{ReplayFault}
 use Rattle.schedule.specs.declared.schedule.ScheduleLine.{ScheduleLine}
 use Rattle.replay.specs.Runs.{ActionIsDone}
-use Rattle.story.specs.declared.deeds.Deed.TheVariants.{Delivered}
+use Rattle.story.specs.declared.deeds.Deed.TheVariants.{Delivered, Other}
 use Rattle.story.specs.declared.ledger.Step.{Step as AStep}
 use Rattle.story.specs.Following.{LineEndsBy}
 use Rattle.story.specs.Ledgers.{counts_of}
-use Rattle.story.specs.Noting.{FrameIsNoted, NotesRound, deed_of, step_of, at_first, has_come, still_waits}
+use Rattle.story.specs.Noting.{CameInRound, FrameIsNoted, IsNoted, NotesLine, NotesRound, RoundIsBegun, deed_of, round_begin, sending_step, step_of, at_first, has_come, still_waits}
 use Rattle.story.specs.Passing.{DeliversOneOf}
 use Rattle.story.proofs.LedgerLemmas.{equal_within}
 use Rattle.story.proofs.Growing.{done_has, refused_has}
@@ -34,9 +34,9 @@ module _ {S : Type 0} (end : WorldState S) (first : ℕ) where
     came = still_waits k parted.more parted.came e;
   }
   more_parted k before now after parted noted false e = record {
-    more = parted.more ++ step_of (Delivered k) end ∷ [];
-    steps = noted.came e ∙ ap (λ (ss : List AStep). ss ++ step_of (Delivered k) end ∷ []) parted.steps
-        ∙ append_assoc before parted.more (step_of (Delivered k) end ∷ []);
+    more = parted.more ++ sending_step (Delivered k) (before ++ parted.more) (length end.frames) ∷ [];
+    steps = noted.came e ∙ ap (λ (ss : List AStep). ss ++ sending_step (Delivered k) ss (length end.frames) ∷ []) parted.steps
+        ∙ append_assoc before parted.more (sending_step (Delivered k) (before ++ parted.more) (length end.frames) ∷ []);
     came = has_come k parted.more parted.came e;
   }
 
@@ -46,6 +46,30 @@ module _ {S : Type 0} (end : WorldState S) (first : ℕ) where
   one_more_parted seen k before now after same within parted noted =
       more_parted k before now after parted (subst (λ (w : WorldState S). FrameIsNoted w k now after) same noted)
       (get_or end.waiting k true) (slice_get-get_or end.waiting k true within)
+
+-- ---- a round
+module _ {S : Type 0} (storages : Ghosts (Script S)) (node : ℕ) (members : List ℕ) (old new : WorldState S) where
+  -- it begins, its frames come, and it ends, or can't be done
+  pub round_noted : (before begun parted after : List AStep) (fault : Option ReplayFault) → RoundIsBegun node fault new before begun
+      → NotesRound new (length old.frames) (length new.frames) begun parted → IsNoted (Other node) fault new parted after
+      → NotesLine storages (Round node members) fault old before new after
+  round_noted before begun parted after None begins comes ends =
+      let first = round_begin node before new in
+      let last : List AStep = step_of (Other node) new ∷ [] in record {
+        more = first ++ (comes.more ++ last);
+        steps = ends ∙ ap (λ (ss : List AStep). ss ++ last) (comes.steps ∙ ap (λ (ss : List AStep). ss ++ comes.more) begins)
+            ∙ append_assoc (before ++ first) comes.more last ∙ append_assoc before first (comes.more ++ last);
+        noted = (
+          comes.more,
+          refl,
+          subst (λ (ss : List AStep). CameInRound new ss (length old.frames) (length new.frames) comes.more) begins comes.came,
+        );
+      }
+  round_noted before begun parted after (Some fault) begins comes ends = record {
+    more = comes.more;
+    steps = ends ∙ comes.steps ∙ ap (λ (ss : List AStep). ss ++ comes.more) begins;
+    noted = subst (λ (ss : List AStep). CameInRound new ss (length old.frames) (length new.frames) comes.more) begins comes.came;
+  }
 
 -- ---- the frames of a world
 module _ {S : Type 0} (storages : Ghosts (Script S)) where

@@ -12,7 +12,7 @@ use Rattle.story.specs.declared.ledger.Counts.{Counts}
 use Rattle.story.specs.declared.ledger.Step.{Step}
 use Rattle.story.specs.Counted.{NeverFall, counts_before, ends_or_none}
 use Rattle.world_model.specs.Worlds.{WorldState}
-use Rattle.story.specs.Noting.{FrameIsNoted, IsNoted, step_of}
+use Rattle.story.specs.Noting.{FrameIsNoted, RoundIsBegun, sending_step}
 use Rattle.schedule.specs.declared.replay_fault.ReplayFault.{ReplayFault}
 use Rattle.story.specs.Passing.{AreOfRound, ArePassages, AreSent, MadeFrom, OneMade, CameAt, FirstDeliversAt, Hears, HearsIn, IsLater, IsSent, NotesComing, NotesSending, came_in, came_of, came_with, comes_by, sent_of}
 use Rattle.story.proofs.LedgerLemmas.{counts_same, got_last, one_longer, same_below}
@@ -207,14 +207,14 @@ pub made_noted : {S : Type 0} (w : WorldState S) (k first : ℕ) (before after :
     → FrameIsNoted w k before after → MadeFrom before first (length w.frames) → MadeFrom after first (length w.frames)
 made_noted w k first before after true at noted h = subst (λ (ss : List Step). MadeFrom ss first (length w.frames)) (sym (noted.waits at)) h
 made_noted w k first before after false at noted h =
-    made_more before (step_of (Delivered k) w) first (length w.frames) after (noted.came at) (omega arith) h
+    made_more before (sending_step (Delivered k) before (length w.frames)) first (length w.frames) after (noted.came at) (omega arith) h
 
 -- what a round makes is made by its own step, where it has one
-pub taken_made : {S : Type 0} (deed : Deed) (fault : Option ReplayFault) (w : WorldState S) (first : ℕ) (before after : List Step)
-    → IsNoted deed fault w before after → (counts_before before (length before)).frames ≤ first → MadeFrom after first (length w.frames)
-taken_made deed None w first before after noted h =
-    made_more before (step_of deed w) first (length w.frames) after noted (omega arith) (inl h)
-taken_made deed (Some fault) w first before after noted h =
+pub round_made : {S : Type 0} (node : ℕ) (fault : Option ReplayFault) (w : WorldState S) (first : ℕ) (before after : List Step)
+    → RoundIsBegun node fault w before after → (counts_before before (length before)).frames ≤ first → MadeFrom after first (length w.frames)
+round_made node None w first before after noted h =
+    made_more before (sending_step (Other node) before (length w.frames)) first (length w.frames) after noted (omega arith) (inl h)
+round_made node (Some fault) w first before after noted h =
     subst (λ (ss : List Step). MadeFrom ss first (length w.frames)) (sym noted) (inl h)
 
 pub of_round : (steps : List Step) (first end : ℕ) → (counts_before steps (length steps)).frames ≤ end → MadeFrom steps first end

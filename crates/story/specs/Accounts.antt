@@ -3,7 +3,7 @@ use Rattle.std.specs.Prelude.{◌≡◌, ℕ, ◌+◌, ◌==◌, List, [], ◌�
 use Rattle.schedule.specs.declared.replay_fault.ReplayFault.{ReplayFault}
 use Rattle.world.specs.Seen.{world_of}
 use Rattle.story.specs.Ledgers.{TellsRun}
-use Rattle.story.specs.Happenings.{Happening, happening}
+use Rattle.story.specs.Happenings.{Happening, coming_at, happening, step_at}
 use Rattle.story.specs.Lines.{AddsLines, Saying, text_at, texts_in}
 use Rattle.story.specs.Ranges.{ranges_of}
 use Rattle.story.specs.Saying.{count_said, fault_said, item_said, line_said}
@@ -19,12 +19,12 @@ use Rattle.story.specs.declared.writer.Form.{Form}
 -- ---- frames that are told as a number
 -- nothing is told yet
 abbrev pub start : Place
-start = record { line = 0; first = 0; sent = 0 }
+start = record { line = 0; step = 0; first = 0; sent = 0 }
 
 -- a line of the schedule begins: nothing of it is told
 abbrev pub at_line : Place → Option LineBegin → Place
 at_line place None = place
-at_line place (Some l) = record { line = l.number; first = 0; sent = 0 }
+at_line place (Some l) = record { line = l.number; step = place.step; first = 0; sent = 0 }
 
 -- one frame more of the line is to be told as a number
 abbrev pub and_frame : Place → ℕ → Place
@@ -33,7 +33,7 @@ and_frame place k = record place { first = if place.sent == 0 then k else place.
 abbrev pub place_after : Manner → Ledger → Place → Entry → Place
 place_after m l place (Line i) = at_line place (slice_get l.lines.items i)
 place_after m l place (Frame k) = if m.frames then place else and_frame place k
-place_after m l place other = place
+place_after m l place other = record place { step = step_at place.step other }
 
 -- ---- the lines of a text, by what they say
 -- so many frames were sent, if any
@@ -45,16 +45,21 @@ abbrev pub line_lines : Form → List (List ℕ) → Option LineBegin → List S
 line_lines form texts None = []
 line_lines form texts (Some l) = line_said form l.number (text_at texts l.number) ∷ []
 
+-- what happened by an entry has a line, at a step of this line of the schedule
 abbrev pub item_lines : Form → ℕ → Option Happening → List Saying
 item_lines form line None = []
 item_lines form line (Some h) = item_said form line h ∷ []
+
+-- what happened by an entry
+abbrev pub happening_at : Ledger → Place → Entry → Option Happening
+happening_at l place e = happening (world_of l.world) (coming_at l.steps.items place.step) e
 
 -- an entry has a line, if something happened by it; a frame only where frames are told one by one. Where a line of the schedule begins, the
 -- frames of the one before are told first
 abbrev pub entry_lines : Manner → Ledger → List (List ℕ) → Place → Entry → List Saying
 entry_lines m l texts place (Line i) = sent_lines m.form place ++ line_lines m.form texts (slice_get l.lines.items i)
-entry_lines m l texts place (Frame k) = if m.frames then item_lines m.form place.line (happening (world_of l.world) (Frame k)) else []
-entry_lines m l texts place other = item_lines m.form place.line (happening (world_of l.world) other)
+entry_lines m l texts place (Frame k) = if m.frames then item_lines m.form place.line (happening_at l place (Frame k)) else []
+entry_lines m l texts place other = item_lines m.form place.line (happening_at l place other)
 
 -- the entries have their lines, one behind another; these are the frames that are still to be told
 pub data AreWritten (m : Manner) (l : Ledger) (texts : List (List ℕ)) : List Entry → Place → List ℕ → Type 0 where

@@ -33,7 +33,7 @@ module _ {S : Type 0} (storages : Ghosts (Script S)) where
     next : (lines : List ScheduleLine) (begins : List LineBegin) (steps : List Step) (now : WorldState S) (line : ScheduleLine)
         (more : List Step) (fault : Option ReplayFault) (new : WorldState S)
         → AreNoted others before start lines begins steps None now
-        → LineEndsBy line now fault new → LineIsNoted storages line.action fault now more new
+        → LineEndsBy line now fault new → LineIsNoted storages line.action fault now steps more new
         → AreNoted others before start (lines ++ line ∷ []) (begins ++ record { number = line.number; step = length steps } ∷ [])
         (steps ++ more) fault new
 

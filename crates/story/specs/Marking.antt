@@ -2,11 +2,11 @@
 use Rattle.std.specs.Prelude.{◌≡◌, ℕ, List, [], ◌∷◌, ◌++◌, Option, Some, None, codes, decimal, map, slice_get}
 use Rattle.diagram.specs.declared.scene.Mark.{Mark}
 use Rattle.diagram.specs.declared.scene.Sign.{Sign}
-use Rattle.diagram.specs.declared.scene.Sign.TheVariants.{Submitted, TimedOut, Learnt, Replied, Answered, Refused, Stopped, Restarted, Restored, Other}
+use Rattle.diagram.specs.declared.scene.Sign.TheVariants.{Submitted, TimedOut, Learnt, Replied, Answered, Lost, Refused, Stopped, Restarted, Restored, Other}
 use Rattle.replay.specs.Transcripts.{command_text}
 use Rattle.sessions.specs.SessionReplies.{outcome_code}
 use Rattle.world.specs.Seen.{world_of}
-use Rattle.story.specs.Happenings.{Happening, answer_given, frame_lost, frame_sent, happening, node_refused, node_stopped, reply_given, round_ended, slot_learnt, text_restored}
+use Rattle.story.specs.Happenings.{Happening, answer_given, coming_at, frame_lost, frame_sent, happening, node_refused, node_stopped, reply_given, round_ended, slot_learnt, step_at, text_restored}
 use Rattle.story.specs.Ledgers.{TellsRun}
 use Rattle.story.specs.Wordings.{words_of}
 use Rattle.story.specs.declared.deeds.Deed.{Deed}
@@ -39,7 +39,7 @@ marks_of step (slot_learnt e) = told_mark step e.node Learnt (decimal e.slot ++ 
 marks_of step (reply_given e) = told_mark step e.node Replied (codes "reply " ++ decimal (outcome_code e.reply)) (reply_given e)
 marks_of step (answer_given e) = told_mark step e.node Answered [] (answer_given e)
 marks_of step (text_restored node position) = told_mark step node Restored [] (text_restored node position)
-marks_of step frame_lost = []
+marks_of step (frame_lost number from to facts) = told_mark step to Lost [] (frame_lost number from to facts)
 marks_of step (node_refused node fault) = told_mark step node Refused [] (node_refused node fault)
 marks_of step (node_stopped node fault) = told_mark step node Stopped [] (node_stopped node fault)
 marks_of step (round_ended node how) = told_mark step node Other [] (round_ended node how)
@@ -68,15 +68,10 @@ step_marks step None = []
 step_marks step (Some s) = deed_marks step s.deed
 
 -- ---- entry by entry
--- the step of which an entry is told
-abbrev pub step_at : ℕ → Entry → ℕ
-step_at step (entry.Step k) = k
-step_at step other = step
-
 abbrev pub entry_marks : Ledger → ℕ → Entry → List Marking
 entry_marks l step (entry.Step k) = step_marks k (slice_get l.steps.items k)
 entry_marks l step (entry.Frame k) = []
-entry_marks l step other = marks_if step (happening (world_of l.world) other)
+entry_marks l step other = marks_if step (happening (world_of l.world) (coming_at l.steps.items step) other)
 
 -- the entries have their marks, in their order, the last one at this step
 pub data AreMarked (l : Ledger) : List Entry → ℕ → List Marking → Type 0 where

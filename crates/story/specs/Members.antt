@@ -2,6 +2,7 @@
 use Rattle.std.specs.Prelude.{ℕ, List, [], ◌++◌, codes, decimal, Option, Some, None}
 use Rattle.std.specs.Str.Lossy.{utf8_lossy}
 use Rattle.diagram.specs.Facts.{kind_text}
+use Rattle.diagram.specs.declared.facts.Facts.{Facts}
 use Rattle.node_model.specs.Faults.{fault_text, node_code}
 use Rattle.node_model.specs.declared.fault.NodeFault.{NodeFault}
 use Rattle.replay.specs.Transcripts.{ballot_text, command_text, request_text}
@@ -38,11 +39,15 @@ abbrev pub reply_members : Replied → List ℕ
 reply_members e = codes ",\"request\":\"" ++ request_text e.client e.number
     ++ (codes "\"" ++ code_members (outcome_code e.reply) (meaning_of e.reply))
 
--- from its kind on
-abbrev pub members_of : Happening → List ℕ
-members_of (frame_sent number from to facts) = codes "\"frame\",\"frame\":" ++ (decimal number ++ (codes ",\"kind\":\""
+-- a frame: its number, its kind and its way, and of what it speaks
+abbrev pub frame_members : (number from to : ℕ) → Facts → List ℕ
+frame_members number from to facts = codes ",\"frame\":" ++ (decimal number ++ (codes ",\"kind\":\""
     ++ (kind_text facts.kind ++ (codes "\",\"from\":" ++ (decimal from ++ (codes ",\"to\":" ++ (decimal to ++ (slot_member facts.slot
     ++ ballot_member facts.ballot))))))))
+
+-- from its kind on
+abbrev pub members_of : Happening → List ℕ
+members_of (frame_sent number from to facts) = codes "\"frame\"" ++ frame_members number from to facts
 members_of (slot_learnt e) = codes "\"learn\",\"node\":" ++ (decimal e.node ++ (codes ",\"slot\":" ++ (decimal e.slot
     ++ codes ",\"command\":\"")))
     ++ (command_text e.command ++ codes "\"")
@@ -50,7 +55,7 @@ members_of (reply_given e) = codes "\"reply\",\"node\":" ++ decimal e.node ++ re
 members_of (answer_given e) = codes "\"answer\",\"node\":" ++ (decimal e.node ++ (codes ",\"position\":" ++ (decimal e.position
     ++ (codes ",\"text\":" ++ json_text e.text))))
 members_of (text_restored node position) = codes "\"restore\",\"node\":" ++ (decimal node ++ (codes ",\"position\":" ++ decimal position))
-members_of frame_lost = codes "\"lost\""
+members_of (frame_lost number from to facts) = codes "\"lost\"" ++ frame_members number from to facts
 members_of (node_refused node fault) = codes "\"refuse\",\"node\":" ++ (decimal node ++ fault_members fault)
 members_of (node_stopped node fault) = codes "\"stop\",\"node\":" ++ (decimal node ++ fault_members fault)
 members_of (round_ended node how) = codes "\"round\",\"node\":" ++ (decimal node ++ codes ",\"meaning\":\"") ++ (end_words how

@@ -48,7 +48,7 @@ words_of (answer_given e) = codes "node " ++ (decimal e.node ++ (codes " answers
     ++ e.text
 words_of (text_restored node position) = codes "node " ++ (decimal node ++ (codes " restores the checkpoint at position "
     ++ decimal position))
-words_of frame_lost = codes "the frame came to a node that is down, and is lost"
+words_of (frame_lost number from to facts) = codes "lost, as node " ++ (decimal to ++ codes " is down: ") ++ frame_text number from to facts
 words_of (node_refused node fault) = codes "node " ++ (decimal node ++ (codes " refuses: " ++ fault_words fault))
 words_of (node_stopped node fault) = codes "node " ++ (decimal node ++ (codes " stops: " ++ fault_words fault))
 words_of (round_ended node how) = codes "the round of node " ++ (decimal node ++ codes " ends: ") ++ end_words how

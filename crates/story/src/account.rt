@@ -2,16 +2,15 @@
 
 ghost use Rattle.std.specs.Prelude.{◌≡◌, ◌+◌, ◌++◌, ◌<◌, ◌^◌, IfErr, IfOk, OnOk, map, slice_get};
 ghost use Rattle.world.specs.Seen.{world_of};
-ghost use Rattle.story.specs.Accounts.{IsAccountOf, IsWritten, and_frame, at_line, end_lines, entry_lines, item_lines, line_lines, place_after, sent_lines};
+ghost use Rattle.story.specs.Accounts.{IsAccountOf, IsWritten, and_frame, at_line, end_lines, entry_lines, happening_at, item_lines, line_lines, place_after, sent_lines};
 ghost use Rattle.story.specs.Following.{IsRunOf, IsUntold};
 ghost use Rattle.story.specs.Ledgers.{IsComplete};
-ghost use Rattle.story.specs.Happenings.{happening};
 ghost use Rattle.story.specs.Lines.{AddsLines};
 ghost use Rattle.story.specs.declared.ledger.Ledger.{Ledger as ALedger};
 
 use super::course::follow;
 use super::entries::{Entry, list_run};
-use super::items::item_of;
+use super::items::{coming_at, item_of};
 use super::ledger::{Ledger, ends_at};
 use super::line_texts::{split_lines, text_of};
 use super::ranges::list_ranges;
@@ -54,10 +53,12 @@ pub(crate) struct Manner {
     pub frames: bool,
 }
 
-/// How far a run is told: the number of the line, and how many frames of it wait to be told of as a number, from the first of them on.
+/// How far a run is told: the number of the line, the step, and how many frames of the line wait to be told of as a number, from the first of
+/// them on.
 #[derive(Clone, Copy)]
 pub(crate) struct Place {
     pub line: u64,
+    pub step: usize,
     pub first: usize,
     pub sent: usize,
 }
@@ -70,8 +71,21 @@ impl Place {
     {
         Place {
             line: self.line,
+            step: self.step,
             first: if self.sent == 0 { number } else { self.first },
             sent: self.sent + 1,
+        }
+    }
+
+    /// A step begins.
+    fn at_step(self, step: usize) -> Place
+        ensures { result ≡ record self { step = step } }
+    {
+        Place {
+            line: self.line,
+            step,
+            first: self.first,
+            sent: self.sent,
         }
     }
 }
@@ -86,6 +100,7 @@ fn tell_run(alloc: Global, bytes: &[u8], ledger: &Ledger, manner: Manner) -> io:
     let mut text = Vec::new(alloc);
     let mut place = Place {
         line: 0,
+        step: 0,
         first: 0,
         sent: 0,
     };
@@ -128,11 +143,15 @@ fn tell_next(
                 Ok(place.and_frame(number))
             }
         }
-        Entry::Step(_)
-        | Entry::Outcome(_)
-        | Entry::Learnt(_)
-        | Entry::Replied(_)
-        | Entry::Answered(_) => tell_entry(alloc, ledger, manner.form, place, entry, text),
+        Entry::Step(step) => Ok(place.at_step(step)),
+        Entry::Outcome(_) | Entry::Learnt(_) | Entry::Replied(_) | Entry::Answered(_) => tell_entry(
+            alloc,
+            ledger,
+            manner.form,
+            place,
+            entry,
+            text,
+        ),
     }
 }
 
@@ -159,6 +178,7 @@ fn begin_line(
     tell_line(alloc, form, text, line, text_of(texts, line))?;
     Ok(Place {
         line,
+        step: place.step,
         first: 0,
         sent: 0,
     })
@@ -169,7 +189,12 @@ fn begin_line(
 fn tell_sent(alloc: Global, form: Form, place: Place, text: &mut Vec<u8>) -> io::Result<()>
     ensures { OnOk result (AddsLines text.old.items (sent_lines form place) text.new.items) }
 {
-    let Place { line, first, sent } = place;
+    let Place {
+        line,
+        first,
+        sent,
+        ..
+    } = place;
     if sent == 0 {
         return Ok(());
     }
@@ -187,10 +212,11 @@ fn tell_entry(
     text: &mut Vec<u8>,
 ) -> io::Result<Place>
     ensures lines { OnOk result (AddsLines text.old.items
-        (item_lines form place.line (happening (world_of ledger.now.world) entry)) text.new.items) }
+        (item_lines form place.line (happening_at ledger.now place entry)) text.new.items) }
     ensures place { IfOk result (λ after. after ≡ place) }
 {
-    match item_of(alloc, &ledger.world, entry) {
+    let coming = coming_at(ledger.steps.as_slice(), place.step);
+    match item_of(alloc, &ledger.world, coming, entry) {
         Ok(item) => match item {
             Some(item) => {
                 tell_item(alloc, form, text, place.line, &item)?;

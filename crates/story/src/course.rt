@@ -1,19 +1,21 @@
 //! The course of a run: its lines are done one after another, step by step, and noted.
 
-ghost use Rattle.std.specs.Prelude.{◌≡◌, IfErr, IfOk, None, OnOk};
+ghost use Rattle.std.specs.Prelude.{◌≡◌, IfErr, IfOk, None, OnOk, length};
 ghost use Rattle.schedule.specs.Causes.{memory};
 ghost use Rattle.story.specs.Following.{AreFollowed, ComesNext, IsRunOf, IsUntold, LineEndsBy};
 ghost use Rattle.story.specs.Ledgers.{IsComplete, IsKept};
 ghost use Rattle.story.specs.Noting.{IsNoted, NotesLine, deed_of};
+ghost use Rattle.story.specs.Passing.{DeliversOneOf};
 ghost use Rattle.world.specs.Seen.{world_of};
 
 use super::deeds::{Deed, deed_of};
 use super::ledger::{Ledger, begin, ends_at};
 use events::{Event, WorldFault};
 use replay::do_line;
-use schedule::{Action, ReplayFault, ScheduleLine, parse_schedule};
+use schedule::{Action, Members, ReplayFault, ScheduleLine, parse_schedule};
 use stable::{MemStable, Scripted, Stable};
 use std::alloc::Global;
+use wire::NodeId;
 use world::MOST_DELIVERIES;
 
 /// The run that the bytes spell, over records in memory, to its end or to the line that ends it.
@@ -72,11 +74,7 @@ impl Ledger {
         match action {
             Action::Flush => self.flush(alloc, number),
             Action::Step(event) => self.take(alloc, number, Action::Step(event)),
-            Action::Round { node, members } => {
-                let first = self.world.frames().len();
-                self.take(alloc, number, Action::Round { node, members })?;
-                self.part_round(alloc, number, first)
-            }
+            Action::Round { node, members } => self.do_round(alloc, number, node, members),
         }
     }
 
@@ -130,6 +128,32 @@ impl Ledger {
         }
     }
 
+    /// Does a round by hand, and notes its begin, the frames that came in it, and its end.
+    fn do_round(
+        &mut self,
+        alloc: Global,
+        line: u64,
+        node: NodeId,
+        members: Members,
+    ) -> Result<(), ReplayFault>
+        requires kept { IsKept self.old }
+        requires goes_on { self.old.fault ≡ None }
+        ensures kept { OnOk result (IsKept self.new) }
+        ensures lines { OnOk result (self.new.lines.items ≡ self.old.lines.items) }
+        ensures done { OnOk result (LineEndsBy (⟦<Scripted<MemStable> as Stable>⟧)
+            (record { number = line; action = Action.Round node members })
+            (world_of self.old.world) self.new.fault (world_of self.new.world)) }
+        ensures noted { OnOk result (NotesLine (⟦<Scripted<MemStable> as Stable>⟧) (Action.Round node members) self.new.fault
+            (world_of self.old.world) self.old.steps.items (world_of self.new.world) self.new.steps.items) }
+        ensures memory { IfErr result (λ fault. fault.cause ≡ memory) }
+    {
+        let first = self.world.frames().len();
+        self.do_action(alloc, line, Action::Round { node, members });
+        self.begin_round(line, node)?;
+        self.part_round(alloc, line, first)?;
+        self.end_round(line, node)
+    }
+
     /// Does one thing, and notes it; or notes the fault that ends the run.
     fn take(&mut self, alloc: Global, line: u64, action: Action) -> Result<(), ReplayFault>
         requires kept { IsKept self.old }
@@ -144,14 +168,28 @@ impl Ledger {
         ensures memory { IfErr result (λ fault. fault.cause ≡ memory) }
     {
         let deed = deed_of(&action);
-        let number = line;
+        self.do_action(alloc, line, action);
+        match self.fault {
+            Some(_) => Ok(()),
+            None => self.note(line, deed),
+        }
+    }
+
+    /// Does one thing; the fault that ends the run is noted, and nothing else.
+    fn do_action(&mut self, alloc: Global, number: u64, action: Action)
+        requires kept { IsKept self.old }
+        requires goes_on { self.old.fault ≡ None }
+        ensures kept { IsKept self.new }
+        ensures lines { self.new.lines.items ≡ self.old.lines.items }
+        ensures steps { self.new.steps.items ≡ self.old.steps.items }
+        ensures done { LineEndsBy (⟦<Scripted<MemStable> as Stable>⟧) (record { number = number; action = action })
+            (world_of self.old.world) self.new.fault (world_of self.new.world) }
+        ensures sent { self.new.fault ≡ None → DeliversOneOf (deed_of action) (length (world_of self.new.world).frames) }
+    {
         let line = ScheduleLine { number, action };
         match do_line(alloc, &mut self.world, line) {
-            Ok(()) => self.note(number, deed),
-            Err(fault) => {
-                self.fault = Some(fault);
-                Ok(())
-            }
+            Ok(()) => {}
+            Err(fault) => self.fault = Some(fault),
         }
     }
 }

@@ -1,15 +1,17 @@
 //! What is noted of a run: its lines and steps, and how long the world's lists were behind each.
 
 ghost use Rattle.std.specs.Prelude.{◌≡◌, ◌<◌, ◌≤◌, ◌++◌, ◌∷◌, [], IfErr, IfOk, MatchOption, None, OnOk, length};
+ghost use Rattle.story.specs.Counted.{AreWithin};
 ghost use Rattle.schedule.specs.Causes.{memory};
-ghost use Rattle.story.specs.Ledgers.{IsComplete, IsKept, StandsStill, counts_of};
-ghost use Rattle.story.specs.Noting.{FrameIsNoted, NotesRound, step_of};
+ghost use Rattle.story.specs.Ledgers.{IsComplete, IsKept, StandsStill, counted, counts_of};
+ghost use Rattle.story.specs.Noting.{FrameIsNoted, IsNoted, NotesRound, RoundIsBegun, sending_step, step_of};
 ghost use Rattle.story.specs.Passing.{DeliversOneOf, MadeFrom};
 ghost use Rattle.world.specs.Seen.{world_of};
 ghost use Rattle.world_model.specs.Flushing.{IsStart};
 ghost use Rattle.world_model.specs.Waiting.{IsLowestWaiting, NoneWaits};
 
 use super::deeds::Deed;
+use super::entries::NOTHING;
 use super::flags::first_set;
 use super::passages::{is_over, note_passages, open_frames, send_late};
 use diagram::Passage;
@@ -17,7 +19,7 @@ use events::WorldFault;
 use schedule::{ReplayCause, ReplayFault};
 use stable::{MemStable, Scripted, Stable};
 use std::alloc::Global;
-use wire::Nodes;
+use wire::{NodeId, Nodes};
 use world::World;
 
 /// How long the lists of a world are.
@@ -30,8 +32,9 @@ pub struct Counts {
     pub outcomes: usize,
 }
 
-/// One step of a run: what was done, and how long the world's lists were then. A flush is a step for each frame that it delivers, and a
-/// round by hand one for its begin and for each of its frames.
+/// One step of a run: what was done, and how long the world's lists were then. A flush is a step for each frame that it delivers. A round by
+/// hand is one for its begin, by which all its frames are there, one for each of these that comes, and one for its end, by which all else is
+/// there that came of it.
 #[derive(Clone, Copy, Debug)]
 pub struct Step {
     pub deed: Deed,
@@ -145,6 +148,46 @@ impl Ledger {
         ensures memory { IfErr result (λ fault. fault.cause ≡ memory) }
     {
         let ends = count_lists(&self.world);
+        self.push_step(line, deed, ends)
+    }
+
+    /// Notes what was done, and how many frames there are. What else came of it isn't counted yet.
+    pub(super) fn note_frames(&mut self, line: u64, deed: Deed) -> Result<(), ReplayFault>
+        requires kept { IsKept self.old }
+        requires sent { DeliversOneOf deed (length (world_of self.old.world).frames) }
+        ensures kept { OnOk result (IsKept self.new) }
+        ensures still { OnOk result (StandsStill self.old self.new) }
+        ensures noted { OnOk result (self.new.steps.items
+            ≡ self.old.steps.items ++ sending_step deed self.old.steps.items (length (world_of self.old.world).frames) ∷ []) }
+        ensures memory { IfErr result (λ fault. fault.cause ≡ memory) }
+    {
+        let mut ends = self.counted();
+        ends.frames = self.world.frames().len();
+        self.push_step(line, deed, ends)
+    }
+
+    /// How long the lists were behind the last step.
+    fn counted(&self) -> Counts
+        ensures { result ≡ counted self.now }
+    {
+        match self.steps.last() {
+            Some(step) => step.ends,
+            None => NOTHING,
+        }
+    }
+
+    /// Notes a step, behind which the lists are so long.
+    fn push_step(&mut self, line: u64, deed: Deed, ends: Counts) -> Result<(), ReplayFault>
+        requires kept { IsKept self.old }
+        requires sent { DeliversOneOf deed (length (world_of self.old.world).frames) }
+        requires more { AreWithin (counted self.old) ends }
+        requires within { AreWithin ends (counts_of (world_of self.old.world)) }
+        requires frames { ends.frames ≡ length (world_of self.old.world).frames }
+        ensures kept { OnOk result (IsKept self.new) }
+        ensures still { OnOk result (StandsStill self.old self.new) }
+        ensures noted { OnOk result (self.new.steps.items ≡ self.old.steps.items ++ record { deed = deed; ends = ends } ∷ []) }
+        ensures memory { IfErr result (λ fault. fault.cause ≡ memory) }
+    {
         let step = self.steps.len();
         if let Err(_) = note_passages(&mut self.passages, step, ends.frames, &deed) {
             return Err(ends_at(line, WorldFault::Memory));
@@ -152,6 +195,34 @@ impl Ledger {
         match self.steps.push(Step { deed, ends }) {
             Ok(()) => Ok(()),
             Err(_) => Err(ends_at(line, WorldFault::Memory)),
+        }
+    }
+
+    /// A round of a node begins, with all frames that are sent in it, unless it can't be done.
+    pub(super) fn begin_round(&mut self, line: u64, node: NodeId) -> Result<(), ReplayFault>
+        requires kept { IsKept self.old }
+        ensures kept { OnOk result (IsKept self.new) }
+        ensures still { OnOk result (StandsStill self.old self.new) }
+        ensures begun { OnOk result (RoundIsBegun node self.old.fault (world_of self.old.world) self.old.steps.items self.new.steps.items) }
+        ensures memory { IfErr result (λ fault. fault.cause ≡ memory) }
+    {
+        match self.fault {
+            Some(_) => Ok(()),
+            None => self.note_frames(line, Deed::Other(node)),
+        }
+    }
+
+    /// It ends, with all else that came of it.
+    pub(super) fn end_round(&mut self, line: u64, node: NodeId) -> Result<(), ReplayFault>
+        requires kept { IsKept self.old }
+        ensures kept { OnOk result (IsKept self.new) }
+        ensures still { OnOk result (StandsStill self.old self.new) }
+        ensures ended { OnOk result (IsNoted (Deed.Other node) self.old.fault (world_of self.old.world) self.old.steps.items self.new.steps.items) }
+        ensures memory { IfErr result (λ fault. fault.cause ≡ memory) }
+    {
+        match self.fault {
+            Some(_) => Ok(()),
+            None => self.note(line, Deed::Other(node)),
         }
     }
 
@@ -194,7 +265,7 @@ impl Ledger {
         ensures memory { IfErr result (λ fault. fault.cause ≡ memory) }
     {
         if is_over(self.world.waiting(), index) {
-            return self.note(line, Deed::Delivered(index as u64));
+            return self.note_frames(line, Deed::Delivered(index as u64));
         }
         Ok(())
     }

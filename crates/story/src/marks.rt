@@ -3,24 +3,22 @@
 ghost use Rattle.std.specs.Prelude.{◌≡◌, ◌∷◌, [], ◌++◌, IfOk, OnOk, codes, decimal, map, slice_get};
 ghost use Rattle.replay.specs.Transcripts.{command_text};
 ghost use Rattle.sessions.specs.SessionReplies.{outcome_code};
-ghost use Rattle.story.specs.Happenings.{happening, reply_given, slot_learnt, told_by};
+ghost use Rattle.story.specs.Happenings.{coming_at, happening, reply_given, slot_learnt, step_at, told_by};
 ghost use Rattle.story.specs.Ledgers.{IsComplete};
-ghost use Rattle.story.specs.Marking.{AreMarksOf, HasMarked, deed_marks, done_mark, entry_marks, marking, marks_if, marks_of, step_at, step_marks, told_mark};
+ghost use Rattle.story.specs.Marking.{AreMarksOf, HasMarked, deed_marks, done_mark, entry_marks, marking, marks_if, marks_of, step_marks, told_mark};
 ghost use Rattle.story.specs.Wordings.{words_of};
 ghost use Rattle.world.specs.Seen.{world_of};
 
 use super::deeds::Deed;
 use super::entries::{Entry, list_run};
-use super::items::{Item, item_of, push_command};
+use super::items::{Item, coming_at, item_of, push_command};
 use super::ledger::{Ledger, Step};
 use super::words::push_item;
 use diagram::{Mark, Sign};
 use sessions::SessionReply;
-use stable::MemStable;
 use std::alloc::Global;
 use std::io::{self, Write};
 use wire::NodeId;
-use world::World;
 use world_model::LearntEntry;
 
 /// Makes the marks of what is told, at the step of which it is told.
@@ -72,15 +70,17 @@ impl Marker {
             | Entry::Outcome(_)
             | Entry::Learnt(_)
             | Entry::Replied(_)
-            | Entry::Answered(_) => self.mark_entry(&ledger.world, entry),
+            | Entry::Answered(_) => self.mark_entry(ledger, entry),
         }
     }
 
     /// Marks what happened by an entry, where that is shown at a node.
-    fn mark_entry(&mut self, world: &World<MemStable>, entry: Entry) -> io::Result<()>
-        ensures { OnOk result (HasMarked self.old self.new (marks_if self.old.step (happening (world_of world.now) entry))) }
+    fn mark_entry(&mut self, ledger: &Ledger, entry: Entry) -> io::Result<()>
+        ensures { OnOk result (HasMarked self.old self.new (marks_if self.old.step
+            (happening (world_of ledger.now.world) (coming_at ledger.now.steps.items self.old.step) entry))) }
     {
-        match item_of(self.alloc, world, entry) {
+        let coming = coming_at(ledger.steps.as_slice(), self.step);
+        match item_of(self.alloc, &ledger.world, coming, entry) {
             Ok(item) => match item {
                 Some(item) => self.mark(&item),
                 None => Ok(()),
@@ -94,7 +94,8 @@ impl Marker {
         ensures { OnOk result (HasMarked self.old self.new (marks_of self.old.step (told_by item.now))) }
     {
         match item {
-            Item::Sent { .. } | Item::Lost => Ok(()),
+            Item::Sent { .. } => Ok(()),
+            Item::Lost { to, .. } => self.mark_item(item, *to, Sign::Lost),
             Item::Learnt(entry) => self.mark_learnt(item, *entry),
             Item::Replied(entry) => self.mark_reply(item, entry.node, entry.reply),
             Item::Answered(entry) => self.mark_item(item, entry.node, Sign::Answered),

@@ -6,7 +6,7 @@ ghost use Rattle.replay.specs.Transcripts.{command_text, request_text};
 ghost use Rattle.sessions.specs.SessionReplies.{outcome_code};
 ghost use Rattle.story.specs.Happenings.{answer_given, frame_lost, frame_sent, node_refused, node_stopped, reply_given, round_ended, slot_learnt, text_restored, told_by};
 ghost use Rattle.story.specs.Lines.{Says};
-ghost use Rattle.story.specs.Members.{ballot_member, code_members, fault_members, json_text, members_of, reply_members, slot_member};
+ghost use Rattle.story.specs.Members.{ballot_member, code_members, fault_members, frame_members, json_text, members_of, reply_members, slot_member};
 ghost use Rattle.story.specs.Ranges.{range_pairs};
 ghost use Rattle.story.specs.Saying.{count_said, ending_members, item_said, line_said, object_begin};
 ghost use Rattle.story.specs.Wordings.{end_words, meaning_of};
@@ -128,7 +128,12 @@ fn push_item(alloc: Global, text: &mut Vec<u8>, item: &Item) -> io::Result<()>
         Item::Replied(entry) => push_replied(text, *entry),
         Item::Answered(entry) => push_answered(alloc, text, *entry),
         Item::Restored(node, position) => push_restored(text, *node, *position),
-        Item::Lost => push_lost(text),
+        Item::Lost {
+            number,
+            from,
+            to,
+            facts,
+        } => push_lost(text, *number, *from, *to, facts),
         Item::Refused(node, fault) => push_refused(text, *node, *fault),
         Item::Stopped(node, fault) => push_stopped(text, *node, *fault),
         Item::Round(node, end) => push_round(text, *node, *end),
@@ -144,6 +149,33 @@ fn push_sent(
 ) -> io::Result<()>
     ensures { OnOk result (text.new.items ≡ text.old.items ++ members_of (frame_sent number from to facts.now)) }
 {
+    text.extend_from_slice(b"\"frame\"")?;
+    push_frame(text, number, from, to, facts)
+}
+
+fn push_lost(
+    text: &mut Vec<u8>,
+    number: usize,
+    from: NodeId,
+    to: NodeId,
+    facts: &Facts,
+) -> io::Result<()>
+    ensures { OnOk result (text.new.items ≡ text.old.items ++ members_of (frame_lost number from to facts.now)) }
+{
+    text.extend_from_slice(b"\"lost\"")?;
+    push_frame(text, number, from, to, facts)
+}
+
+/// Adds the members of a frame.
+fn push_frame(
+    text: &mut Vec<u8>,
+    number: usize,
+    from: NodeId,
+    to: NodeId,
+    facts: &Facts,
+) -> io::Result<()>
+    ensures { OnOk result (text.new.items ≡ text.old.items ++ frame_members number from to facts.now) }
+{
     push_way(text, number, from, to, facts.kind)?;
     push_facts(text, facts)
 }
@@ -156,13 +188,13 @@ fn push_way(
     to: NodeId,
     kind: Kind,
 ) -> io::Result<()>
-    ensures { OnOk result (text.new.items ≡ text.old.items ++ (codes "\"frame\",\"frame\":" ++ (decimal number ++ (codes ",\"kind\":\"" ++ (kind_text kind
+    ensures { OnOk result (text.new.items ≡ text.old.items ++ (codes ",\"frame\":" ++ (decimal number ++ (codes ",\"kind\":\"" ++ (kind_text kind
         ++ (codes "\",\"from\":" ++ (decimal from ++ (codes ",\"to\":" ++ decimal to)))))))) }
 {
     let (from, to, kind) = (from.value(), to.value(), kind_name(kind));
     write!(
         text,
-        "\"frame\",\"frame\":{number},\"kind\":\"{kind}\",\"from\":{from},\"to\":{to}"
+        ",\"frame\":{number},\"kind\":\"{kind}\",\"from\":{from},\"to\":{to}"
     )
 }
 
@@ -257,12 +289,6 @@ fn push_restored(text: &mut Vec<u8>, node: NodeId, position: Position) -> io::Re
 {
     let (node, position) = (node.value(), position.value());
     write!(text, "\"restore\",\"node\":{node},\"position\":{position}")
-}
-
-fn push_lost(text: &mut Vec<u8>) -> io::Result<()>
-    ensures { OnOk result (text.new.items ≡ text.old.items ++ members_of frame_lost) }
-{
-    write!(text, "\"lost\"")
 }
 
 fn push_round(text: &mut Vec<u8>, node: NodeId, end: RoundEnd) -> io::Result<()>

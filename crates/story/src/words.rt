@@ -12,7 +12,7 @@ ghost use Rattle.story.specs.declared.writer.Form.TheVariants.{Words};
 
 use super::items::{Item, push_command, push_request};
 use super::ranges::Range;
-use diagram::push_frame;
+use diagram::{Facts, push_frame};
 use node_model::NodeFault;
 use schedule::ReplayFault;
 use sessions::SessionReply;
@@ -149,7 +149,12 @@ pub(crate) fn push_item(text: &mut Vec<u8>, item: &Item) -> io::Result<()>
         Item::Replied(entry) => push_replied(text, *entry),
         Item::Answered(entry) => push_answered(text, *entry),
         Item::Restored(node, position) => push_restored(text, *node, *position),
-        Item::Lost => push_lost(text),
+        Item::Lost {
+            number,
+            from,
+            to,
+            facts,
+        } => push_lost(text, *number, *from, *to, facts),
         Item::Refused(node, fault) => push_refused(text, *node, *fault),
         Item::Stopped(node, fault) => push_stopped(text, *node, *fault),
         Item::Round(node, end) => push_round(text, *node, *end),
@@ -211,11 +216,18 @@ fn push_restored(text: &mut Vec<u8>, node: NodeId, position: Position) -> io::Re
 }
 
 /// Adds that a frame was lost.
-fn push_lost(text: &mut Vec<u8>) -> io::Result<()>
-    ensures { OnOk result (text.new.items ≡ text.old.items ++ words_of frame_lost) }
+fn push_lost(
+    text: &mut Vec<u8>,
+    number: usize,
+    from: NodeId,
+    to: NodeId,
+    facts: &Facts,
+) -> io::Result<()>
+    ensures { OnOk result (text.new.items ≡ text.old.items ++ words_of (frame_lost number from to facts.now)) }
 {
-    text.extend_from_slice(b"the frame came to a node that is down, and is lost")?;
-    Ok(())
+    let node = to.value();
+    write!(text, "lost, as node {node} is down: ")?;
+    push_frame(text, number, from, to, facts)
 }
 
 /// Adds how a round of a node ended.

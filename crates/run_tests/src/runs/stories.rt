@@ -151,10 +151,37 @@ fn a_round_is_parted_into_its_deliveries(rt: HostRuntime) -> Result<(), Fail> {
         }
     }
     assert_eq!(rt; came, ledger.passages.len().saturating_sub(wait));
-    assert_eq!(rt; ledger.steps.len(), came.saturating_add(3));
+    assert_eq!(rt; ledger.steps.len(), came.saturating_add(4));
     let entries = list_run(alloc, &ledger)?;
     assert_eq!(rt; entries.first(), Some(&Entry::Line(0)));
-    assert_eq!(rt; entries.last(), Some(&Entry::Step(came.saturating_add(2))));
+    assert_eq!(rt; entries.last(), Some(&Entry::Step(came.saturating_add(3))));
+    let mut end = 0;
+    let mut learnt = 0;
+    for (index, entry) in entries.iter().enumerate() {
+        match entry {
+            Entry::Step(step) if *step == came.saturating_add(2) => end = index,
+            Entry::Learnt(0) => learnt = index,
+            _ => {}
+        }
+    }
+    assert!(rt; 0 < end && end < learnt);
+    Ok(())
+}
+
+#[test]
+fn a_frame_that_comes_to_a_node_that_is_down_is_lost(rt: HostRuntime) -> Result<(), Fail> {
+    const DOWN: &[u8] = b"nodes 3\ntimeout 0\nfault 1 old\ndeliver 1\ndeliver 1\n";
+    const LOST: &str =
+        "     5  deliver 1\n        lost, as node 1 is down: frame 1 prepare 0 -> 1 slot 0 ballot 1.0\n";
+    const OBJECT: &str =
+        "{\"line\":5,\"what\":\"lost\",\"frame\":1,\"kind\":\"prepare\",\"from\":0,\"to\":1,\"slot\":0,\"ballot\":\"1.0\"}\n";
+    let alloc = rt.alloc();
+    let words = tell(alloc, DOWN, Form::Words, false)?;
+    assert!(rt; str::from_utf8(words.text.as_slice())?.contains(LOST));
+    let objects = tell(alloc, DOWN, Form::Json, false)?;
+    assert!(rt; str::from_utf8(objects.text.as_slice())?.contains(OBJECT));
+    let picture = draw(alloc, DOWN, None, None)?;
+    assert!(rt; str::from_utf8(picture.text.as_slice())?.contains("sign missed"));
     Ok(())
 }
 

@@ -1,11 +1,11 @@
-use Rattle.std.proofs.Common.{map, take}
-use Rattle.diagram.specs.Pictures.{AreThere, group_in}
-use Rattle.diagram.specs.Titles.{Draws}
+use Rattle.std.proofs.Common.{take}
+use Rattle.diagram.specs.Drawn.{Draws, IsFrame}
+use Rattle.diagram.specs.Pictures.{AreThere}
 use Rattle.diagram.proofs.arrow_lines.draw_all.Given as goal
 
--- the arrows so far have their groups
+-- the frames of the arrows so far are drawn
 abbrev pub invariant-loop-arrow : goal.invariant-loop-arrow
 invariant-loop-arrow l = record {
   drawn : AreThere l.scene.frames.now l.arrows
-      → Draws l.initial.picture (map (group_in l.scene.frames.now) (take l.arrow-index l.arrows)) l.picture;
+      → Draws (IsFrame l.scene l.layout.ends.items) l.initial.picture (take l.arrow-index l.arrows) l.picture;
 }

@@ -1,8 +1,7 @@
-use Rattle.std.proofs.Common.{◌≡◌, ◌∙◌, ◌++◌, ◌∷◌, [], List, ℕ, OnOk, ap, subst}
+use Rattle.std.proofs.Common.{◌≡◌, ◌∙◌, ◌++◌, List, ℕ, OnOk, codes, ap, subst}
+use Rattle.picture.specs.Elements.{opened}
 use Rattle.diagram.specs.Facts.{frame_text}
-use Rattle.diagram.specs.Pictures.{fate_text, title_text}
-use Rattle.diagram.specs.Titles.{Draws, frame_group}
-use Rattle.diagram.proofs.Drawings.{draws_group}
+use Rattle.diagram.specs.Titles.{fate_text, title_text}
 use Rattle.diagram.proofs.arrow_lines.open_frame.Goals as goal
 
 -- the title is what was added to nothing: what the frame is, and what became of it
@@ -14,5 +13,4 @@ returns c =
     let is : c.as_slice.result.now ≡ said ++ fate =
     c.as_slice.ensures.value ∙ c.in_ok-push_fate.ensures
     ∙ ap (λ (t : List ℕ). t ++ fate) (c.in_ok-push_frame.ensures ∙ ap (λ (t : List ℕ). t ++ said) c.new-title.ensures.items) in
-    subst (λ (t : List ℕ). OnOk c.open.result (Draws c.args.picture.now (frame_group t ∷ []) c.open.new.self)) is
-    (draws_group c.open.result (frame_group c.as_slice.result.now) _ _ c.open.ensures)
+    subst (λ (t : List ℕ). OnOk c.open.result (c.open.new.self ≡ c.args.picture.now ++ opened (codes "frame") t)) is c.open.ensures

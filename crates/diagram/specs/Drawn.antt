@@ -1,0 +1,95 @@
+-- How the things of a picture are drawn.
+use Rattle.std.specs.Prelude.{◌≡◌, ℕ, ◌-◌, ◌≤◌, nat_lt, List, [], ◌∷◌, ◌++◌, codes, decimal, take, slice_get, Some, if◌then◌else◌}
+use Rattle.picture.specs.Elements.{closed, line_text, opened, words_text}
+use Rattle.picture.specs.declared.canvas.Place.{Place}
+use Rattle.wire.specs.declared.frames.envelope.Envelope.{Envelope}
+use Rattle.diagram.specs.Facts.{facts_of, kind_text}
+use Rattle.diagram.specs.Places.{down, lane}
+use Rattle.diagram.specs.Signs.{sign_text}
+use Rattle.diagram.specs.Strokes.{IsStroke}
+use Rattle.diagram.specs.Titles.{title_text}
+use Rattle.diagram.specs.declared.arrows.Arrow.{Arrow}
+use Rattle.diagram.specs.declared.facts.Facts.{Facts}
+use Rattle.diagram.specs.declared.layout.Window.{Window}
+use Rattle.diagram.specs.declared.scene.Label.{Label}
+use Rattle.diagram.specs.declared.scene.Mark.{Mark}
+use Rattle.diagram.specs.declared.scene.Scene.{Scene}
+
+-- behind the old text stands such a part, and nothing else
+pub record Adds (IsSuch : List ℕ → Type 0) (old new : List ℕ) : Type 0 where
+  pub part : List ℕ
+  pub such : IsSuch part
+  pub is : new ≡ old ++ part
+
+-- behind the old text stand these things in their order, each as it is drawn, and nothing else
+pub data Draws {A : Type 0} (IsDrawn : A → List ℕ → Type 0) (old : List ℕ) : List A → List ℕ → Type 0 where
+  none : Draws IsDrawn old [] old
+  more : (things : List A) (thing : A) (now new : List ℕ) → Draws IsDrawn old things now → Adds (IsDrawn thing) now new
+      → Draws IsDrawn old (things ++ thing ∷ []) new
+
+-- a group is closed behind what stands in it
+abbrev pub group : List ℕ → List ℕ → List ℕ → List ℕ
+group class title inside = opened class title ++ (inside ++ closed)
+
+-- ---- the head, and the lanes
+-- which frames are shown, of how many: `frames 0 to 17 of 18, 3 nodes`
+abbrev pub heading : Window → ℕ → ℕ → List ℕ
+heading window frames nodes = if nat_lt window.first window.end
+    then codes "frames " ++ (decimal window.first ++ (codes " to " ++ (decimal (window.end - 1) ++ (codes " of " ++ (decimal frames
+    ++ (codes ", " ++ (decimal nodes ++ codes " nodes")))))))
+    else codes "no frame of " ++ (decimal frames ++ (codes ", " ++ (decimal nodes ++ codes " nodes")))
+
+-- that, and a note that is the same in each picture
+pub record IsHead (frames nodes : ℕ) (window : Window) (text : List ℕ) : Type 0 where
+  pub meanings : List ℕ
+  pub is : text ≡ words_text (codes "head") (record { x = 1000; y = 1400 }) (heading window frames nodes)
+      ++ words_text (codes "note") (record { x = 1000; y = 2400 }) meanings
+
+-- the lane of a node, and the node's number above it
+pub record IsLane (nodes node : ℕ) (text : List ℕ) : Type 0 where
+  pub bottom : ℕ
+  pub is : text ≡ words_text (codes "head") (record { x = lane nodes node - 1200; y = 3600 }) (codes "node " ++ decimal node)
+      ++ line_text (codes "lane") (record { x = lane nodes node; y = 3800 }) (record { x = lane nodes node; y = bottom })
+
+-- ---- the lines of the schedule
+-- the first 56 bytes of a line, left of the lanes, not below its step
+pub record IsLine (ends : List ℕ) (label : Label) (text : List ℕ) : Type 0 where
+  pub height : ℕ
+  pub above : height ≤ down ends label.step
+  pub is : text ≡ words_text (codes "line") (record { x = 1000; y = height }) (take 56 label.text.items)
+
+-- ---- the frames
+-- the kind of a frame, left of its sender's lane below the step at which it was sent; or nothing, where another word stands there
+pub data MayTell (nodes : ℕ) (ends : List ℕ) (arrow : Arrow) (kind : List ℕ) : List ℕ → Type 0 where
+  told : (beside : Place) → beside.x ≡ lane nodes arrow.from - 200 → down ends arrow.sent ≤ beside.y
+      → MayTell nodes ends arrow kind (words_text (codes "kind") beside kind)
+  untold : MayTell nodes ends arrow kind []
+
+-- a group with a frame's title and its line, and maybe its kind behind it
+pub record IsTold (nodes : ℕ) (ends : List ℕ) (arrow : Arrow) (facts : Facts) (text : List ℕ) : Type 0 where
+  pub color : ℕ
+  pub stroke : List ℕ
+  pub drawn : IsStroke nodes ends arrow color stroke
+  pub kind : List ℕ
+  pub told : MayTell nodes ends arrow (kind_text facts.kind) kind
+  pub is : text ≡ group (codes "frame") (title_text arrow facts) stroke ++ kind
+
+-- that of the frame of this number
+pub record IsFrame (s : Scene) (ends : List ℕ) (arrow : Arrow) (text : List ℕ) : Type 0 where
+  pub frame : Envelope
+  pub there : slice_get s.frames.now arrow.frame ≡ Some frame
+  pub told : IsTold s.nodes ends arrow (facts_of frame.message) text
+
+-- ---- the marks
+-- a group with a mark's title, its sign at a place, and its note right of that
+pub record IsMarkAt (sign : Place) (m : Mark) (text : List ℕ) : Type 0 where
+  pub note : Place
+  pub right : sign.x ≤ note.x
+  pub is : text ≡ group (codes "mark") m.title.items (sign_text m.sign sign ++ words_text (codes "note") note m.note.items)
+
+-- the sign stands at the height of its step, on the lane of its node or right of it, where others stand on the lane
+pub record IsMark (nodes : ℕ) (ends : List ℕ) (m : Mark) (text : List ℕ) : Type 0 where
+  pub sign : Place
+  pub right : lane nodes m.node ≤ sign.x
+  pub height : sign.y ≡ down ends m.step
+  pub there : IsMarkAt sign m text

@@ -1,0 +1,19 @@
+-- Where nodes and steps stand in a picture, in hundredths of a unit: nodes side by side, steps one below the other.
+use Rattle.std.specs.Prelude.{ℕ, ◌+◌, ◌-◌, ◌*◌, ◌/◌, ◌<◌, max, List, slice_index_or}
+use Rattle.picture.specs.declared.canvas.Place.{Place}
+
+-- how far from the left the lane of a node is: so many nodes share the width, from the first one's lane to the last one's
+unfoldable pub lane : ℕ → ℕ → ℕ
+lane nodes node = 28000 + node * 46000 / max (nodes - 1) 1
+
+-- how far down a step stands, by where the steps of a layout end; 0 where it has no place for the step
+abbrev pub down : List ℕ → ℕ → ℕ
+down ends step = slice_index_or ends step 0
+
+-- it has a place for a step
+abbrev pub Stands : List ℕ → ℕ → Type 0
+Stands ends step = 0 < down ends step
+
+-- a node, at a step
+abbrev pub place : ℕ → List ℕ → ℕ → ℕ → Place
+place nodes ends node step = record { x = lane nodes node; y = down ends step }
