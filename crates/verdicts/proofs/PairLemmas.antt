@@ -1,5 +1,5 @@
 -- What holds of each two elements of a list.
-use Rattle.std.proofs.Common.{◌≡◌, ℕ, zero, suc, ◌+◌, ◌-◌, ◌<◌, List, [], ◌∷◌, ◌++◌, length, get_or, map, reverse, All, AllPairs, Contains, sym, ap, subst, ◌∙◌, arith}
+use Rattle.std.proofs.Common.{◌≡◌, zero, suc, ◌-◌, ◌<◌, List, [], ◌∷◌, ◌++◌, length, get_or, map, reverse, All, AllPairs, Contains, sym, ap, subst, ◌∙◌, arith}
 use Rattle.std.proofs.lemmas.List.{get_or-reverse, length-reverse}
 use Rattle.std.proofs.lemmas.List.Elements.{All-append, All-cons, All-head, All-map, All-nil, All-tail}
 use Rattle.verdicts.proofs.PlaceLemmas.{all_front, all_last}
@@ -85,15 +85,3 @@ contains_reverse xs x (k, within, e) =
       omega (arith, within, same),
       get_or-reverse xs (length xs - 1 - k) x (omega (arith, within)) ∙ ap (λ i. get_or xs i x) back ∙ e,
     )
-
-pub pairs_reverse : {X : Type 0} (R : X → X → Type 0) → ((x y : X) → R x y → R y x) → (xs : List X) → AllPairs R xs
-    → AllPairs R (reverse xs)
-pairs_reverse R turned xs h i j d order within =
-    let same = length-reverse xs in
-    let below : j < length xs = omega (arith, within, same) in
-    let first = get_or-reverse xs i d (omega (arith, order, below)) in
-    let second = get_or-reverse xs j d below in
-    subst (λ x. R x (get_or (reverse xs) j d)) (sym first)
-    (subst (λ y. R (get_or xs (length xs - 1 - i) d) y) (sym second)
-    (turned (get_or xs (length xs - 1 - j) d) (get_or xs (length xs - 1 - i) d)
-    (h (length xs - 1 - j) (length xs - 1 - i) d (omega (arith, order, below)) (omega (arith, order, below)))))

@@ -169,7 +169,7 @@ pub record IsLeaving (requests : List Submission) (names : List (Option Name)) (
 abbrev pub AreLearnt : List (Option Name) → List Command → Type 0
 AreLearnt names commands = (slot : ℕ) → slot < length commands → slice_get names slot ≢ Some None
 
--- a choice that was tried: commands up to a slot at which names leave another, which don't explain the lines
+-- a choice that was tried: commands as far as the names leave no other, which don't explain the lines
 pub record IsTried (requests : List Submission) (names : List (Option Name)) (questions : List Question) (told : List ToldLine)
     (commands : List Command) : Type 0 where
   pub begun : AreBegun requests names commands
@@ -193,7 +193,7 @@ pub record HasTried (requests : List Submission) (names : List (Option Name)) (q
   pub apart : AllPairs (AreApart requests commands) untried
   pub left : All (λ (b : Branch). All (λ (l : List Command). ¬ (Follows requests commands l b)) choices) untried
 
--- and the commands begin none of them, nor any list of a choice that is left
+-- and the commands are a further choice: none of those begins with them, nor does any list of a choice that is left
 pub record IsNext (requests : List Submission) (names : List (Option Name)) (questions : List Question) (told : List ToldLine)
     (count : ℕ) (commands : List Command) (untried : List Branch) : Type 0 where
   pub has_tried : HasTried requests names questions told count commands untried

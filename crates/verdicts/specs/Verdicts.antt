@@ -64,7 +64,7 @@ pub record BeginsWith (size : ℕ) (commands l : List Command) : Type 0 where
   pub slots : length l ≡ size
   pub begins : take (length commands) l ≡ commands
 
--- the commands don't explain the lines: one is told by no list that begins with them, or one rests on the slot behind them
+-- the commands alone don't explain the lines: no list that begins with them has what one tells, or one rests on the slot behind them
 pub data AreNotEnough (questions : List Question) (size : ℕ) (told : List ToldLine) (commands : List Command) : Type 0 where
   are_contradicted : Any (λ (line : ToldLine). (l : List Command) → BeginsWith size commands l → ¬ (HasTold questions l line.told)) told
       → AreNotEnough questions size told commands

@@ -23,7 +23,7 @@ use sessions::{Command, Request};
 use std::alloc::{AllocError, Global};
 use std::collections::BTreeMap;
 
-/// So many choices are tried at most.
+/// So many choices are tried at most after the first.
 const MOST_CHOICES: usize = 65_536;
 
 /// A choice that was not tried yet: at this slot, of the requests the one at this place.

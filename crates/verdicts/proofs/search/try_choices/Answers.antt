@@ -20,24 +20,28 @@ follow-requires c =
 
 pub outcome-requires-clause-placed : goal.outcome-requires-clause-placed
 outcome-requires-clause-placed c =
-    let after = rw c.if-not-branch.true at (c.in_ok-follow.ensures.step c.args.names.now c.args.questions.now c.args.told.now c.loop-tried.invariant.leaving) in
+    let step = c.in_ok-follow.ensures.step c.args.names.now c.args.questions.now c.args.told.now c.loop-tried.invariant.leaving in
+    let after = rw c.if-not-branch.true at step in
     all_behind c.args.requests.now c.args.names.now (length c.follow.new.self.commands.items) c.follow.new.self.untried.items
     after.state.choices
 
 pub outcome-requires-clause-within : goal.outcome-requires-clause-within
 outcome-requires-clause-within c =
-    let after = rw c.if-not-branch.true at (c.in_ok-follow.ensures.step c.args.names.now c.args.questions.now c.args.told.now c.loop-tried.invariant.leaving) in
+    let step = c.in_ok-follow.ensures.step c.args.names.now c.args.questions.now c.args.told.now c.loop-tried.invariant.leaving in
+    let after = rw c.if-not-branch.true at step in
     latest_within c.args.requests.now c.args.names.now c.args.questions.now c.args.told.now c.follow.new.self.latest after.state.latest
 
 pub returns-then-not-branch : goal.returns-then-not-branch
 returns-then-not-branch c =
-    let after = rw c.if-not-branch.true at (c.in_ok-follow.ensures.step c.args.names.now c.args.questions.now c.args.told.now c.loop-tried.invariant.leaving) in
+    let step = c.in_ok-follow.ensures.step c.args.names.now c.args.questions.now c.args.told.now c.loop-tried.invariant.leaving in
+    let after = rw c.if-not-branch.true at step in
     c.outcome.ensures c.args.names.now c.args.questions.now after
     (λ some. absurd (some (c.in_ok-follow.ensures.none c.if-not-branch.true)))
 
 pub visit-requires-in-loop-tried-clause-entering : goal.visit-requires-in-loop-tried-clause-entering
 visit-requires-in-loop-tried-clause-entering c =
-    rw c.if-not-branch.false at (c.in_ok-follow.ensures.step c.args.names.now c.args.questions.now c.args.told.now c.loop-tried.invariant.leaving)
+    let step = c.in_ok-follow.ensures.step c.args.names.now c.args.questions.now c.args.told.now c.loop-tried.invariant.leaving in
+    rw c.if-not-branch.false at step
 
 pub loop-tried-preserved : goal.loop-tried-preserved
 loop-tried-preserved c =
