@@ -4,7 +4,8 @@ use Rattle.std.proofs.lemmas.List.{take_all}
 use Rattle.sessions.specs.Meaning.{RequestsAreValid}
 use Rattle.sessions.specs.declared.command.Command.{Command}
 use Rattle.sessions.specs.declared.command.Command.TheVariants as command
-use Rattle.verdicts.specs.Execution.{BeginsWith, IsAnswerFinding, IsFinding}
+use Rattle.verdicts.specs.Execution.{IsAnswerFinding, IsFinding}
+use Rattle.verdicts.specs.Verdicts.{BeginsWith}
 use Rattle.verdicts.specs.declared.examination.Finding.{Finding}
 use Rattle.verdicts.specs.declared.examination.Finding.TheVariants as finding
 use Rattle.verdicts.specs.declared.lines.Told.TheVariants.{Answer}

@@ -6,4 +6,6 @@ pub mod PossibleLemmas
 pub mod ReplyLemmas
 pub mod FindingLemmas
 pub mod SearchLemmas
+pub mod PairLemmas
+pub mod TryingLemmas
 pub mod VerdictLemmas

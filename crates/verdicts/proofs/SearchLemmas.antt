@@ -9,12 +9,12 @@ use Rattle.std.specs.Option.{option_map}
 use Rattle.sessions.specs.declared.command.Command.{Command}
 use Rattle.sessions.specs.declared.command.Command.TheVariants as command
 use Rattle.sessions.specs.declared.submission.Submission.{Submission}
-use Rattle.verdicts.specs.Execution.{BeginsWith, IsContradiction, IsLater}
+use Rattle.verdicts.specs.Execution.{IsContradiction, IsLater}
 use Rattle.verdicts.specs.Explaining.{IsAmong, HasTold, name_of}
 use Rattle.verdicts.specs.Placement.{IsOnly}
 use Rattle.verdicts.specs.RequestIndex.{IsAmbiguous, IsOf}
 use Rattle.verdicts.specs.Search.{IsPossible, HasAllTold, IsSolved, AreBegun, IsOperation, AreOperations, IsChoice, branch_at, branches_at, AreAscending, Follows, IsExtended, IsLatest, IsListed, IsBehind, IsWithin, IsRefuted, IsUnlearnt, IsLeft, is_refuted, is_untried, IsEntered, is_left, is_begun, IsSearch, IsEntering, IsLeaving, IsLast, IsUndecided}
-use Rattle.verdicts.specs.Verdicts.{RestsOn}
+use Rattle.verdicts.specs.Verdicts.{BeginsWith, RestsOn}
 use Rattle.verdicts.specs.declared.examination.Contradiction.{Contradiction}
 use Rattle.verdicts.specs.declared.lines.Name.{Name}
 use Rattle.verdicts.specs.declared.lines.Name.TheVariants.{NoOp, Request}
@@ -33,7 +33,7 @@ pub one_more : {X : Type 0} (xs : List X) (k : ℕ) (x : X) → slice_get xs k �
 one_more xs k x e =
     take_more xs k x (slice_get_within xs k x e) ∙ ap (λ y. take k xs ++ y ∷ []) (get_or_from_slice_get xs k x x e)
 
-take_front : {X : Type 0} (n : ℕ) (xs ys : List X) → n ≤ length xs → take n (xs ++ ys) ≡ take n xs
+pub take_front : {X : Type 0} (n : ℕ) (xs ys : List X) → n ≤ length xs → take n (xs ++ ys) ≡ take n xs
 take_front zero xs ys h = refl
 take_front (suc n) [] ys h = absurd (omega (arith, h))
 take_front (suc n) (x ∷ xs) ys h = ap (λ l. x ∷ l) (take_front n xs ys (omega (arith, h)))
@@ -51,7 +51,7 @@ contains_map f xs x (k, within, e) =
     let there : slice_get xs k ≡ Some x = slice_get-get_or xs k x within ∙ ap (λ y. Some y) e in
     contains_from_get (map f xs) k (f x) (slice_get-map f xs k ∙ ap (λ o. option_map f o) there)
 
-no_element : {X : Type 0} (x : X) → Contains [] x → ⊥
+pub no_element : {X : Type 0} (x : X) → Contains [] x → ⊥
 no_element x (k, within, e) = omega (arith, within)
 
 -- ---- slots in ascending order
@@ -62,7 +62,7 @@ ascending_front : (bs : List Branch) (b : Branch) → AreAscending (bs ++ b ∷ 
 ascending_front [] b h = tt
 ascending_front (c ∷ bs) b h = (all_front (λ (d : Branch). c.slot ≤ d.slot) bs b h.0, ascending_front bs b h.1)
 
-ascending_last : (bs : List Branch) (b : Branch) → AreAscending (bs ++ b ∷ []) → All (IsUpTo b.slot) bs
+pub ascending_last : (bs : List Branch) (b : Branch) → AreAscending (bs ++ b ∷ []) → All (IsUpTo b.slot) bs
 ascending_last [] b h = All-nil (IsUpTo b.slot)
 ascending_last (c ∷ bs) b h =
     All-cons (IsUpTo b.slot) c bs (all_last (λ (d : Branch). c.slot ≤ d.slot) bs b h.0) (ascending_last bs b h.1)
@@ -72,7 +72,7 @@ all_places slot [] = All-nil (λ (place : ℕ). Unit {0})
 all_places slot (p ∷ places) = All-cons (λ (place : ℕ). Unit {0}) p places tt (all_places slot places)
 
 -- what holds of the slot holds of all branches there
-all_at : (P : Branch → Type 0) (slot : ℕ) (places : List ℕ) → ((place : ℕ) → P (branch_at slot place)) → All P (branches_at slot places)
+pub all_at : (P : Branch → Type 0) (slot : ℕ) (places : List ℕ) → ((place : ℕ) → P (branch_at slot place)) → All P (branches_at slot places)
 all_at P slot places each =
     All-map P (branch_at slot) places
     (All-weaker (λ (place : ℕ). Unit {0}) (λ (place : ℕ). P (branch_at slot place)) (λ place h. each place) places (all_places slot places))

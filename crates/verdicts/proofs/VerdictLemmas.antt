@@ -1,17 +1,18 @@
 -- Verdicts from what is known.
-use Rattle.std.proofs.Common.{◌≡◌, ◌≢◌, ℕ, ◌+◌, ◌<◌, ◌≤◌, max, List, [], ◌∷◌, ◌++◌, length, take, get_or, slice_get, All, Contains, Option, Some, None, Result, Ok, Err, IfOk, sym, ap, subst, ◌∙◌, arith}
+use Rattle.std.proofs.Common.{◌≡◌, ◌≢◌, ℕ, ◌+◌, ◌<◌, ◌≤◌, max, List, [], ◌∷◌, ◌++◌, length, take, get_or, slice_get, All, Any, Contains, Option, Some, None, Result, Ok, Err, IfOk, sym, ap, subst, ◌∙◌, arith}
 use Rattle.std.proofs.lemmas.List.{take_more}
-use Rattle.std.proofs.lemmas.List.Elements.{All-contains, All-nil, All-cons, All-weaker}
-use Rattle.std.proofs.lemmas.Option.{slice_get_within}
+use Rattle.std.proofs.lemmas.List.Elements.{All-contains, All-nil, All-cons, All-take, All-weaker}
+use Rattle.std.proofs.lemmas.Option.{slice_get_within, slice_get-get_or}
+use Rattle.std.specs.Option.{option_map}
 use Rattle.store.specs.Operations.{OpIsValid}
 use Rattle.sessions.specs.declared.submission.Submission.{Submission}
 use Rattle.sessions.specs.Meaning.{RequestsAreValid}
 use Rattle.sessions.specs.declared.command.Command.{Command}
 use Rattle.sessions.specs.declared.command.Command.TheVariants as command
-use Rattle.verdicts.specs.Explaining.{IsAmong, HasLearnt, HasTold, IsExplained, reach, greatest, position_of}
+use Rattle.verdicts.specs.Explaining.{IsAmong, HasLearnt, HasTold, IsExplained, name_of, reach, greatest, position_of}
 use Rattle.verdicts.specs.Placement.{AreNames, IsEarly}
-use Rattle.verdicts.specs.Search.{AreBegun, IsLast, IsOutcome, IsSolved, IsUndecided, IsUnlearnt}
-use Rattle.verdicts.specs.Verdicts.{IsVerdict, IsFirstContradiction, IsNeeded, HasTwoOperations, at_learn, at_told}
+use Rattle.verdicts.specs.Search.{AreBegun, AreManyTried, IsTried, IsStop, IsLast, IsOutcome, IsSolved, IsUndecided, IsUnlearnt}
+use Rattle.verdicts.specs.Verdicts.{IsVerdict, IsFirstContradiction, IsNeeded, HasTwoOperations, IsOfSeveral, IsChosen, AreNotEnough, AreTooMany, at_learn, at_told}
 use Rattle.verdicts.specs.declared.lines.LearnLine.{LearnLine}
 use Rattle.verdicts.specs.declared.lines.Name.{Name}
 use Rattle.verdicts.specs.declared.lines.Name.TheVariants.{Request}
@@ -21,11 +22,11 @@ use Rattle.verdicts.specs.declared.lines.ToldLine.{ToldLine}
 use Rattle.verdicts.specs.declared.verdict.Verdict.{Verdict}
 use Rattle.verdicts.specs.declared.verdict.Verdict.TheVariants.{Explained, Contradicted, UnlearntSlot, TwoOperations}
 use Rattle.verdicts.specs.declared.verdict.Why.{Why}
-use Rattle.verdicts.proofs.FindingLemmas.{taken_there}
+use Rattle.verdicts.proofs.FindingLemmas.{get_take, taken_there}
 use Rattle.verdicts.proofs.IndexLemmas.{contains_from_get}
 use Rattle.verdicts.proofs.PlaceLemmas.{all_front, all_last, not_both}
 use Rattle.verdicts.proofs.PossibleLemmas.{possible_list, possible_learnt, list_possible}
-use Rattle.verdicts.proofs.SearchLemmas.{one_more}
+use Rattle.verdicts.proofs.SearchLemmas.{begun_within, one_more}
 
 -- ---- the greatest position
 pub greatest_more : {X : Type 0} (f : X → ℕ) (xs : List X) (x : X) → greatest f (xs ++ x ∷ []) ≡ max (greatest f xs) (f x)
@@ -69,6 +70,15 @@ begun_valid requests names commands begun valid = record {
       (contains_from_get begun.list i (command.Request r) listed) in
       All-contains (λ (q : Submission). OpIsValid q.op) requests r valid among;
 }
+
+-- ---- where a choice ends
+several_there : (requests : List Submission) (names : List (Option Name)) (slot : ℕ) (next : Option (ℕ × ℕ)) (wanted : Name)
+    → slice_get names slot ≡ Some (Some wanted) → IsStop requests names slot next → IsOfSeveral requests wanted
+several_there requests names slot None wanted there stop =
+    absurd (not_both (slice_get names slot) wanted (stop (slice_get_within names slot (Some wanted) there)) there)
+several_there requests names slot (Some key) wanted there stop =
+    let e : Some (Some (Request key.0 key.1)) ≡ Some (Some wanted) = sym stop.0 ∙ there in
+    let same : Request key.0 key.1 ≡ wanted = cc in subst (IsOfSeveral requests) same stop.1
 
 -- ---- a verdict on the lines `learn`
 module _ (requests : List Submission) (questions : List Question) (learns : List LearnLine) (told : List ToldLine) where
@@ -147,24 +157,52 @@ module _ (requests : List Submission) (questions : List Question) (learns : List
     two_operations client number h =
         let t = are.told h.slot (Request client number) h.named in
         let (k, within, e) = t.there in
-        let a = h.ambiguous in
-        record {
-          learnt = (k, t.line, within, e, t.of_name);
-          one = a.one;
-          other = a.other;
-          one_there = a.one_there;
-          other_there = a.other_there;
-          one_is = (a.one_is.of_client, a.one_is.of_number);
-          other_is = (a.other_is.of_client, a.other_is.of_number);
-          differ = a.differ;
-        }
+        record { learnt = (k, t.line, within, e, t.of_name); ambiguous = h.ambiguous }
+
+    -- ---- choices that were tried
+    chosen_there : (c : List Command) → IsTried requests names questions told c → (slot : ℕ) → slot < length c → (o : Option Name)
+        → slice_get names slot ≡ Some o → Any (λ (line : LearnLine). (line.slot ≡ slot) × HasLearnt c line) learns
+    chosen_there c t slot below None there = absurd (t.learnt slot below there)
+    chosen_there c t slot below (Some wanted) there =
+        let h = are.told slot wanted there in
+        let (k, within, e) = h.there in
+        let here : option_map name_of (slice_get c slot) ≡ Some wanted =
+        ap (λ (o : Option Command). option_map name_of o)
+        (ap (λ (l : List Command). slice_get l slot) (sym t.begun.begins) ∙ get_take (length c) t.begun.list slot below)
+        ∙ t.begun.possible.named slot wanted there in
+        let at : option_map name_of (slice_get c h.line.slot) ≡ Some wanted =
+        subst (λ (i : ℕ). option_map name_of (slice_get c i) ≡ Some wanted) (sym h.of_slot) here in
+        (k, h.line, within, e, (h.of_slot, at ∙ ap (λ (n : Name). Some n) (sym h.of_name)))
+
+    tried_chosen : (c : List Command) → IsTried requests names questions told c → IsChosen requests learns c
+    tried_chosen c t = record {
+      among = subst (All (IsAmong requests)) t.begun.begins (All-take (IsAmong requests) (length c) t.begun.list t.begun.possible.among);
+      learnt = λ slot below.
+          let fits = begun_within requests names c t.begun in
+          chosen_there c t slot below (get_or names slot None) (slice_get-get_or names slot None (omega (arith, below, fits)));
+      ends = All-weaker (λ (line : LearnLine). slice_get names line.slot ≡ Some (Some line.name))
+          (λ (line : LearnLine). line.slot ≡ length c → IsOfSeveral requests line.name)
+          (λ line there same. several_there requests names (length c) t.next line.name
+          (subst (λ (i : ℕ). slice_get names i ≡ Some (Some line.name)) same there) t.stops)
+          learns are.learnt;
+    }
+
+    too_many : AreManyTried requests names questions told → AreTooMany requests questions (reach learns told) learns told
+    too_many m = record {
+      tried = m.choices;
+      count = m.count;
+      unlike = m.unlike;
+      chosen = All-weaker (IsTried requests names questions told) (IsChosen requests learns) tried_chosen m.choices m.tried;
+      failed = All-weaker (IsTried requests names questions told) (AreNotEnough questions (reach learns told) told)
+          (λ c t. subst (λ (n : ℕ). AreNotEnough questions n told c) are.count t.fails) m.choices m.tried;
+    }
 
     pub later_verdict : (verdict : Verdict) → IsOutcome requests names questions told verdict
         → IsVerdict requests questions learns told verdict
     later_verdict Explained h = solved_explained told h
     later_verdict (Contradicted place why) h = last_told place h
     later_verdict (UnlearntSlot slot) h = needed_slot slot h
-    later_verdict (TwoOperations client number) h = two_operations client number h
+    later_verdict (TwoOperations client number) h = (two_operations client number h.0, too_many h.1)
 
 pub later_found : {E : Type 0} (requests : List Submission) (questions : List Question) (learns : List LearnLine) (told : List ToldLine)
     (names : List (Option Name)) → AreNames requests (reach learns told) learns names → (result : Result Verdict E)

@@ -5,7 +5,7 @@ use Rattle.sessions.specs.declared.command.Command.{Command}
 use Rattle.sessions.specs.Standing.{StandsFor}
 use Rattle.verdicts.specs.Explaining.{HasAnswer, HasTold, HasReply}
 use Rattle.verdicts.specs.RequestIndex.{reply_cmp}
-use Rattle.verdicts.specs.Verdicts.{RestsOn}
+use Rattle.verdicts.specs.Verdicts.{BeginsWith, RestsOn}
 use Rattle.verdicts.specs.declared.examination.Contradiction.{Contradiction}
 use Rattle.verdicts.specs.declared.examination.Finding.{Finding}
 use Rattle.verdicts.specs.declared.examination.Finding.TheVariants.{Explained, Contradicted, Undecided}
@@ -24,11 +24,6 @@ pub record AreReplies (l : List Command) (replies : BTreeSet ((ℕ × ℕ) × �
 pub record IsAt (l : List Command) (cursor : Cursor) : Type 0 where
   pub within : cursor.position ≤ length l
   pub stands : StandsFor cursor.machine (take cursor.position l)
-
--- a list of so many slots that begins with these commands
-pub record BeginsWith (size : ℕ) (commands l : List Command) : Type 0 where
-  pub slots : length l ≡ size
-  pub begins : take (length commands) l ≡ commands
 
 -- what an answer at a position is to the commands
 abbrev pub IsAnswerFinding : List Question → ℕ → List Command → ℕ → ℕ → List ℕ → Finding → Type 0

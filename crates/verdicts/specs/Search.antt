@@ -1,12 +1,12 @@
 -- Which lists of commands a search among choices has left behind, and what comes of it.
-use Rattle.std.specs.Prelude.{◌≡◌, ℕ, ◌+◌, ◌<◌, ◌≤◌, List, [], ◌∷◌, length, map, take, slice_get, All, Any, Contains, Option, Some, None, Bool, true, false}
+use Rattle.std.specs.Prelude.{◌≡◌, ◌≢◌, ℕ, ◌+◌, ◌<◌, ◌≤◌, List, [], ◌∷◌, length, map, take, slice_get, All, AllPairs, Any, Contains, Option, Some, None, Bool, true, false}
 use Rattle.std.specs.Option.{option_map}
 use Rattle.sessions.specs.declared.submission.Submission.{Submission}
 use Rattle.sessions.specs.declared.command.Command.{Command}
 use Rattle.sessions.specs.declared.command.Command.TheVariants as command
 use Rattle.verdicts.specs.Explaining.{IsAmong, HasTold, name_of}
 use Rattle.verdicts.specs.RequestIndex.{IsOf, IsAmbiguous}
-use Rattle.verdicts.specs.Verdicts.{RestsOn}
+use Rattle.verdicts.specs.Verdicts.{AreNotEnough, RestsOn}
 use Rattle.verdicts.specs.declared.examination.Contradiction.{Contradiction}
 use Rattle.verdicts.specs.declared.lines.Name.{Name}
 use Rattle.verdicts.specs.declared.lines.Name.TheVariants.{Request}
@@ -59,6 +59,14 @@ pub record IsListed (requests : List Submission) (places : List ℕ) (r : Submis
 pub record AreOperations (requests : List Submission) (client number : ℕ) (places : List ℕ) : Type 0 where
   pub each : All (IsOperation requests client number) places
   pub whole : (r : Submission) → Contains requests r → IsOf client number r → IsListed requests places r
+
+-- none of the places has the request
+abbrev pub IsUnlisted : List Submission → List ℕ → Submission → Type 0
+IsUnlisted requests places r = All (λ (place : ℕ). slice_get requests place ≢ Some r) places
+
+-- no two of the places have the same request
+abbrev pub AreUnlike : List Submission → List ℕ → Type 0
+AreUnlike requests places = AllPairs (λ (a b : ℕ). slice_get requests a ≢ slice_get requests b) places
 
 -- the slot has the name of requests with several operations, and this is one of them; the commands reach the slot
 pub record IsChoice (requests : List Submission) (names : List (Option Name)) (reached : ℕ) (b : Branch) : Type 0 where
@@ -156,6 +164,42 @@ pub record IsLeaving (requests : List Submission) (names : List (Option Name)) (
   pub state : IsSearch requests names questions told s
   pub left : AreAll requests names s.unlearnt (IsLeft requests questions told s)
 
+-- ---- what was tried
+-- a line tells of the slot of each of the commands
+abbrev pub AreLearnt : List (Option Name) → List Command → Type 0
+AreLearnt names commands = (slot : ℕ) → slot < length commands → slice_get names slot ≢ Some None
+
+-- a choice that was tried: commands as far as the names leave no other, which don't explain the lines
+pub record IsTried (requests : List Submission) (names : List (Option Name)) (questions : List Question) (told : List ToldLine)
+    (commands : List Command) : Type 0 where
+  pub begun : AreBegun requests names commands
+  pub learnt : AreLearnt names commands
+  pub next : Option (ℕ × ℕ)
+  pub stops : IsStop requests names (length commands) next
+  pub fails : AreNotEnough questions (length names) told commands
+
+-- no list is of both choices
+abbrev pub AreApart : List Submission → List Command → Branch → Branch → Type 0
+AreApart requests commands b c = (l : List Command) → Follows requests commands l b → ¬ (Follows requests commands l c)
+
+-- so many choices were tried, no two alike, and none is of a choice that is left
+pub record HasTried (requests : List Submission) (names : List (Option Name)) (questions : List Question) (told : List ToldLine)
+    (count : ℕ) (commands : List Command) (untried : List Branch) : Type 0 where
+  pub choices : List (List Command)
+  pub counted : length choices ≡ count
+  pub unlike : AllPairs (λ (a b : List Command). a ≢ b) choices
+  pub tried : All (IsTried requests names questions told) choices
+  pub learnt : AreLearnt names commands
+  pub apart : AllPairs (AreApart requests commands) untried
+  pub left : All (λ (b : Branch). All (λ (l : List Command). ¬ (Follows requests commands l b)) choices) untried
+
+-- and the commands are a further choice: none of those begins with them, nor does any list of a choice that is left
+pub record IsNext (requests : List Submission) (names : List (Option Name)) (questions : List Question) (told : List ToldLine)
+    (count : ℕ) (commands : List Command) (untried : List Branch) : Type 0 where
+  pub has_tried : HasTried requests names questions told count commands untried
+  pub fresh : All (λ (l : List Command). take (length commands) l ≢ commands) has_tried.choices
+  pub aside : All (λ (b : Branch). (l : List Command) → take (length commands) l ≡ commands → ¬ (Follows requests commands l b)) untried
+
 -- with a next choice, or with none
 abbrev pub AfterStep : List Submission → List (Option Name) → List Question → List ToldLine → Bool → Search → Type 0
 AfterStep requests names questions told true s = IsEntering requests names questions told s
@@ -183,8 +227,17 @@ pub record IsUndecided (requests : List Submission) (names : List (Option Name))
   pub named : slice_get names slot ≡ Some (Some (Request client number))
   pub ambiguous : IsAmbiguous requests client number
 
+-- more than 65,536 choices, no two alike, were tried
+pub record AreManyTried (requests : List Submission) (names : List (Option Name)) (questions : List Question) (told : List ToldLine)
+    : Type 0 where
+  pub choices : List (List Command)
+  pub count : 65536 < length choices
+  pub unlike : AllPairs (λ (a b : List Command). a ≢ b) choices
+  pub tried : All (IsTried requests names questions told) choices
+
 abbrev pub IsOutcome : List Submission → List (Option Name) → List Question → List ToldLine → Verdict → Type 0
 IsOutcome requests names questions told Explained = IsSolved requests names questions told
 IsOutcome requests names questions told (Contradicted place why) = IsLast requests names questions told place
 IsOutcome requests names questions told (UnlearntSlot slot) = IsUnlearnt names told (Some slot)
-IsOutcome requests names questions told (TwoOperations client number) = IsUndecided requests names client number
+IsOutcome requests names questions told (TwoOperations client number) =
+    IsUndecided requests names client number × AreManyTried requests names questions told

@@ -1,11 +1,14 @@
 -- The verdict on transcripts.
 --
 -- Their lines are taken in this order: first the lines `learn`, of one transcript after another, and then all others.
-use Rattle.std.specs.Prelude.{◌≡◌, ◌≢◌, ℕ, ◌+◌, ◌<◌, List, [], take, slice_get, Some, All, Any, Contains}
+use Rattle.std.specs.Prelude.{◌≡◌, ◌≢◌, ℕ, ◌+◌, ◌<◌, List, [], length, take, slice_get, Some, All, AllPairs, Any}
 use Rattle.sessions.specs.declared.submission.Submission.{Submission}
-use Rattle.verdicts.specs.Explaining.{IsExplained, reach}
+use Rattle.sessions.specs.declared.command.Command.{Command}
+use Rattle.verdicts.specs.Explaining.{HasLearnt, HasTold, IsAmong, IsExplained, reach}
+use Rattle.verdicts.specs.RequestIndex.{IsAmbiguous}
 use Rattle.verdicts.specs.declared.lines.LearnLine.{LearnLine}
-use Rattle.verdicts.specs.declared.lines.Name.TheVariants.{Request}
+use Rattle.verdicts.specs.declared.lines.Name.{Name}
+use Rattle.verdicts.specs.declared.lines.Name.TheVariants.{NoOp, Request}
 use Rattle.verdicts.specs.declared.lines.Place.{Place}
 use Rattle.verdicts.specs.declared.lines.Told.{Told}
 use Rattle.verdicts.specs.declared.lines.Told.TheVariants.{Reply, Answer}
@@ -41,13 +44,41 @@ pub record IsNeeded (size : ℕ) (learns : List LearnLine) (told : List ToldLine
 -- the request was learnt, and is submitted with two operations
 pub record HasTwoOperations (requests : List Submission) (learns : List LearnLine) (client number : ℕ) : Type 0 where
   pub learnt : Any (λ (line : LearnLine). line.name ≡ Request client number) learns
-  pub one : Submission
-  pub other : Submission
-  pub one_there : Contains requests one
-  pub other_there : Contains requests other
-  pub one_is : (one.client ≡ client) × (one.number ≡ number)
-  pub other_is : (other.client ≡ client) × (other.number ≡ number)
-  pub differ : one.op ≢ other.op
+  pub ambiguous : IsAmbiguous requests client number
+
+-- ---- choices among such operations
+-- requests of the name have different operations
+abbrev pub IsOfSeveral : List Submission → Name → Type 0
+IsOfSeveral requests NoOp = ⊥
+IsOfSeveral requests (Request client number) = IsAmbiguous requests client number
+
+-- a choice: at each slot from 0 on a no-op or a request, of the name that a line tells of the slot. It goes on until no line tells of
+-- the next slot, or the name there is that of several operations
+pub record IsChosen (requests : List Submission) (learns : List LearnLine) (commands : List Command) : Type 0 where
+  pub among : All (IsAmong requests) commands
+  pub learnt : (slot : ℕ) → slot < length commands → Any (λ (line : LearnLine). (line.slot ≡ slot) × HasLearnt commands line) learns
+  pub ends : All (λ (line : LearnLine). line.slot ≡ length commands → IsOfSeveral requests line.name) learns
+
+-- a list of so many slots that begins with these commands
+pub record BeginsWith (size : ℕ) (commands l : List Command) : Type 0 where
+  pub slots : length l ≡ size
+  pub begins : take (length commands) l ≡ commands
+
+-- the commands alone don't explain the lines: no list that begins with them has what one tells, or one rests on the slot behind them
+pub data AreNotEnough (questions : List Question) (size : ℕ) (told : List ToldLine) (commands : List Command) : Type 0 where
+  are_contradicted : Any (λ (line : ToldLine). (l : List Command) → BeginsWith size commands l → ¬ (HasTold questions l line.told)) told
+      → AreNotEnough questions size told commands
+  are_undecided : length commands < size → Any (λ (line : ToldLine). RestsOn (length commands) line.told) told
+      → AreNotEnough questions size told commands
+
+-- more than 65,536 choices, no two alike, none of which explains the lines
+pub record AreTooMany (requests : List Submission) (questions : List Question) (size : ℕ) (learns : List LearnLine)
+    (told : List ToldLine) : Type 0 where
+  pub tried : List (List Command)
+  pub count : 65536 < length tried
+  pub unlike : AllPairs (λ (a b : List Command). a ≢ b) tried
+  pub chosen : All (IsChosen requests learns) tried
+  pub failed : All (AreNotEnough questions size told) tried
 
 -- ---- the verdict
 abbrev pub IsVerdict : List Submission → List Question → List LearnLine → List ToldLine → Verdict → Type 0
@@ -55,4 +86,5 @@ IsVerdict requests questions learns told Explained = IsExplained requests questi
 IsVerdict requests questions learns told (Contradicted place why) =
     IsFirstContradiction requests questions (reach learns told) learns told place
 IsVerdict requests questions learns told (UnlearntSlot slot) = IsNeeded (reach learns told) learns told slot
-IsVerdict requests questions learns told (TwoOperations client number) = HasTwoOperations requests learns client number
+IsVerdict requests questions learns told (TwoOperations client number) =
+    HasTwoOperations requests learns client number × AreTooMany requests questions (reach learns told) learns told

@@ -1,13 +1,13 @@
 //! Choices among the operations of requests that were submitted with several.
 
-ghost use Rattle.std.specs.Prelude.{◌≡◌, ◌≤◌, ◌<◌, ◌++◌, ◌↔◌, ℕ, List, Option, All, Any, Contains, IfOk, OnOk, IsTrue, length, slice_get, Some, true, false, IfSome};
+ghost use Rattle.std.specs.Prelude.{◌≡◌, ◌≢◌, ◌≤◌, ◌<◌, ◌+◌, ◌++◌, ◌↔◌, [], ℕ, List, Option, All, Any, Contains, IfOk, OnOk, IsTrue, length, slice_get, Some, true, false, IfSome};
 ghost use Rattle.store.specs.Operations.{OpIsValid};
 ghost use Rattle.sessions.specs.declared.submission.Submission.{Submission};
 ghost use Rattle.verdicts.specs.Execution.{IsContradiction};
 ghost use Rattle.verdicts.specs.Explaining.{position_of};
 ghost use Rattle.verdicts.specs.Placement.{SlotIsSubmitted};
 ghost use Rattle.verdicts.specs.RequestIndex.{IsIndexed, IsOf};
-ghost use Rattle.verdicts.specs.Search.{AreOperations, IsListed, IsOperation, branches_at, IsExtended, IsStop, IsBehind, IsWithin, IsEntering, IsLeaving, IsSolved, IsOutcome, AfterStep};
+ghost use Rattle.verdicts.specs.Search.{AreLearnt, AreManyTried, AreOperations, AreUnlike, HasTried, IsListed, IsNext, IsOperation, IsTried, IsUnlisted, branches_at, IsExtended, IsStop, IsBehind, IsWithin, IsEntering, IsLeaving, IsSolved, IsOutcome, AfterStep};
 ghost use Rattle.verdicts.specs.Verdicts.{RestsOn};
 ghost use Rattle.verdicts.specs.declared.lines.Name.{Name as AName};
 ghost use Rattle.verdicts.specs.declared.lines.Question.{Question as AQuestion};
@@ -23,7 +23,7 @@ use sessions::{Command, Request};
 use std::alloc::{AllocError, Global};
 use std::collections::BTreeMap;
 
-/// So many choices are tried at most.
+/// So many choices are tried at most after the first.
 const MOST_CHOICES: usize = 65_536;
 
 /// A choice that was not tried yet: at this slot, of the requests the one at this place.
@@ -67,7 +67,7 @@ pub(crate) fn try_choices(
     if search.visit(alloc, requests, index, names, questions, told)? {
         return Ok(Verdict::Explained);
     }
-    for _ in 0..MOST_CHOICES {
+    for _tried in 0..MOST_CHOICES {
         if !search.follow(requests)? {
             return Ok(search.outcome(requests, told));
         }
@@ -81,8 +81,10 @@ pub(crate) fn try_choices(
 impl Search {
     /// Nothing is chosen yet.
     fn new(alloc: Global) -> Search
-        ensures { (requests : List Submission) (names : List (Option AName)) (questions : List AQuestion) (told : List ALine)
+        ensures entering { (requests : List Submission) (names : List (Option AName)) (questions : List AQuestion) (told : List ALine)
             → All (SlotIsSubmitted requests) names → IsEntering requests names questions told result }
+        ensures first { (requests : List Submission) (names : List (Option AName)) (questions : List AQuestion) (told : List ALine)
+            → IsNext requests names questions told 0 result.commands.items result.untried.items }
     {
         Search {
             commands: Vec::new(alloc),
@@ -109,6 +111,9 @@ impl Search {
         requires entering { IsEntering requests.now names.now questions.now told.now self.old }
         ensures explained { IfOk result (λ yes. IsTrue yes → IsSolved requests.now names.now questions.now told.now) }
         ensures leaving { IfOk result (λ yes. yes ≡ false → IsLeaving requests.now names.now questions.now told.now self.new) }
+        ensures tried { IfOk result (λ yes. yes ≡ false → (count : ℕ)
+            → IsNext requests.now names.now questions.now told.now count self.old.commands.items self.old.untried.items
+            → HasTried requests.now names.now questions.now told.now (count + 1) self.new.commands.items self.new.untried.items) }
     {
         let choice = extend(requests, index, names, &mut self.commands)?;
         let found = examine_lines(
@@ -134,7 +139,9 @@ impl Search {
 
     /// Leaves the choice that is tried, for this contradiction.
     fn leave(&mut self, contradiction: Contradiction)
-        ensures { (requests : List Submission) (names : List (Option AName)) (questions : List AQuestion) (told : List ALine)
+        ensures commands { self.new.commands.items ≡ self.old.commands.items }
+        ensures untried { self.new.untried.items ≡ self.old.untried.items }
+        ensures leaving { (requests : List Submission) (names : List (Option AName)) (questions : List AQuestion) (told : List ALine)
             → IsEntering requests names questions told self.old
             → IsContradiction questions (length names) self.old.commands.items told self.old.latest contradiction
             → IsLeaving requests names questions told self.new }
@@ -151,12 +158,16 @@ impl Search {
         requests: &[Request],
         choice: Option<(u8, u64)>,
     ) -> Result<(), AllocError>
-        ensures { OnOk result ((names : List (Option AName)) (questions : List AQuestion) (told : List ALine)
+        ensures leaving { OnOk result ((names : List (Option AName)) (questions : List AQuestion) (told : List ALine)
             → IsEntering requests.now names questions told self.old
             → IsStop requests.now names (length self.old.commands.items) choice
             → length self.old.commands.items < length names
             → Any (λ (line : ALine). RestsOn (length self.old.commands.items) line.told) told
             → IsLeaving requests.now names questions told self.new) }
+        ensures tried { OnOk result ((names : List (Option AName)) (questions : List AQuestion) (told : List ALine) (count : ℕ)
+            → IsNext requests.now names questions told count self.old.commands.items self.old.untried.items
+            → IsTried requests.now names questions told self.old.commands.items
+            → HasTried requests.now names questions told (count + 1) self.new.commands.items self.new.untried.items) }
     {
         let slot = self.commands.len();
         match choice {
@@ -175,8 +186,13 @@ impl Search {
     /// Goes on with the next choice. Says whether there is one.
     fn follow(&mut self, requests: &[Request]) -> Result<bool, AllocError>
         requires { All (IsBehind requests.now) self.old.untried.items }
-        ensures { IfOk result (λ more. (names : List (Option AName)) (questions : List AQuestion) (told : List ALine)
+        ensures step { IfOk result (λ more. (names : List (Option AName)) (questions : List AQuestion) (told : List ALine)
             → IsLeaving requests.now names questions told self.old → AfterStep requests.now names questions told more self.new) }
+        ensures next { IfOk result (λ more. IsTrue more → (names : List (Option AName)) (questions : List AQuestion) (told : List ALine)
+            (count : ℕ) → IsLeaving requests.now names questions told self.old
+            → HasTried requests.now names questions told count self.old.commands.items self.old.untried.items
+            → IsNext requests.now names questions told count self.new.commands.items self.new.untried.items) }
+        ensures none { IfOk result (λ more. more ≡ false → self.new.untried.items ≡ []) }
     {
         match self.untried.pop() {
             None => Ok(false),
@@ -194,7 +210,9 @@ impl Search {
         requires placed { All (IsBehind requests.now) self.now.untried.items }
         requires within { IsWithin told.now self.now.latest }
         ensures { (names : List (Option AName)) (questions : List AQuestion)
-            → IsLeaving requests.now names questions told.now self.now → IsOutcome requests.now names questions told.now result }
+            → IsLeaving requests.now names questions told.now self.now
+            → (self.now.untried.items ≢ [] → AreManyTried requests.now names questions told.now)
+            → IsOutcome requests.now names questions told.now result }
     {
         let next = self.untried.last().copied();
         if let Some(branch) = next {
@@ -236,6 +254,7 @@ fn extend(
     requires submitted { All (SlotIsSubmitted requests.now) names.now }
     requires within { length commands.old.items ≤ length names.now }
     ensures extended { OnOk result (IsExtended requests.now names.now commands.old.items commands.new.items) }
+    ensures learnt { OnOk result (AreLearnt names.now commands.old.items → AreLearnt names.now commands.new.items) }
     ensures stops { IfOk result (IsStop requests.now names.now (length commands.new.items)) }
 {
     while commands.len() < names.len() {
@@ -252,7 +271,7 @@ fn extend(
     Ok(None)
 }
 
-/// The places of the client's requests of the number, behind these commands. The likeliest is the last.
+/// The places of the client's requests of the number, one for each operation. The likeliest behind these commands is the last.
 fn choices_at(
     alloc: Global,
     requests: &[Request],
@@ -260,32 +279,35 @@ fn choices_at(
     client: u8,
     number: u64,
 ) -> Result<Vec<usize>, AllocError>
-    ensures { IfOk result (λ places. AreOperations requests.now client number places.items) }
+    ensures operations { IfOk result (λ places. AreOperations requests.now client number places.items) }
+    ensures unlike { IfOk result (λ places. AreUnlike requests.now places.items) }
 {
-    let mut places = operations_of(alloc, requests, client, number)?;
     let before = count_of(commands, client, number);
-    add_likely(&mut places, requests, client, number, before)?;
+    let mut places = likeliest(alloc, requests, client, number, before)?;
+    add_operations(&mut places, requests, client, number)?;
+    places.reverse();
     Ok(places)
 }
 
-/// Adds the place that is likeliest behind so many of the client's requests of the number: nodes mostly learn them in the order in
-/// which they were submitted.
-fn add_likely(
-    places: &mut Vec<usize>,
+/// The place that is likeliest behind so many of the client's requests of the number, if there is one: nodes mostly learn them in the
+/// order in which they were submitted.
+fn likeliest(
+    alloc: Global,
     requests: &[Request],
     client: u8,
     number: u64,
     before: usize,
-) -> Result<(), AllocError>
-    requires { AreOperations requests.now client number places.old.items }
-    ensures { OnOk result (AreOperations requests.now client number places.new.items) }
+) -> Result<Vec<usize>, AllocError>
+    ensures each { IfOk result (λ places. All (IsOperation requests.now client number) places.items) }
+    ensures unlike { IfOk result (λ places. AreUnlike requests.now places.items) }
 {
+    let mut places = Vec::new(alloc);
     match place_of(requests, client, number, before) {
         Some(place) => {
             places.push(place)?;
-            Ok(())
+            Ok(places)
         }
-        None => Ok(()),
+        None => Ok(places),
     }
 }
 
@@ -325,22 +347,24 @@ fn is_of(request: &Request, client: u8, number: u64) -> bool
     request.client() == client && request.number().value() == number
 }
 
-/// The places of the client's requests of the number, one for each operation.
-fn operations_of(
-    alloc: Global,
+/// Adds the places of the client's requests of the number, one for each operation that is at none of the places yet.
+fn add_operations(
+    places: &mut Vec<usize>,
     requests: &[Request],
     client: u8,
     number: u64,
-) -> Result<Vec<usize>, AllocError>
-    ensures { IfOk result (λ places. AreOperations requests.now client number places.items) }
+) -> Result<(), AllocError>
+    requires each { All (IsOperation requests.now client number) places.old.items }
+    requires unlike { AreUnlike requests.now places.old.items }
+    ensures operations { OnOk result (AreOperations requests.now client number places.new.items) }
+    ensures unlike { OnOk result (AreUnlike requests.now places.new.items) }
 {
-    let mut places = Vec::new(alloc);
     for (place, request) in requests.iter().enumerate() {
-        if is_new(requests, &places, request, client, number) {
+        if is_new(requests, places, request, client, number) {
             places.push(place)?;
         }
     }
-    Ok(places)
+    Ok(())
 }
 
 /// Whether the request is the client's of the number, and stands at none of the places.
@@ -352,6 +376,7 @@ fn is_new(
     number: u64,
 ) -> bool
     ensures wanted { IsTrue result → IsOf client number request.now }
+    ensures unlisted { IsTrue result → IsUnlisted requests.now places.now request.now }
     ensures listed { result ≡ false → IsOf client number request.now → IsListed requests.now places.now request.now }
 {
     is_of(request, client, number) && !is_listed(requests, places, request)
@@ -359,7 +384,8 @@ fn is_new(
 
 /// Whether the request stands at one of the places.
 fn is_listed(requests: &[Request], places: &[usize], request: &Request) -> bool
-    ensures { IsTrue result → IsListed requests.now places.now request.now }
+    ensures listed { IsTrue result → IsListed requests.now places.now request.now }
+    ensures unlisted { result ≡ false → IsUnlisted requests.now places.now request.now }
 {
     for place in places {
         if stands_at(requests, *place, request) {
@@ -371,7 +397,7 @@ fn is_listed(requests: &[Request], places: &[usize], request: &Request) -> bool
 
 /// Whether the request stands at the place.
 fn stands_at(requests: &[Request], place: usize, request: &Request) -> bool
-    ensures { IsTrue result → slice_get requests.now place ≡ Some request.now }
+    ensures { IsTrue result ↔ (slice_get requests.now place ≡ Some request.now) }
 {
     if place >= requests.len() {
         return false;

@@ -26,7 +26,7 @@ pub enum Verdict {
     Contradicted { place: Place, why: Why },
     /// A line needs this slot, and no line tells what was learnt there. Nothing is claimed.
     UnlearntSlot(usize),
-    /// This request was learnt, and is submitted with two operations, and too many choices among such operations are left. Nothing is
-    /// claimed.
+    /// This request was learnt, and is submitted with two operations. More than 65,536 choices among such operations were tried, and
+    /// some are left. No more is claimed.
     TwoOperations { client: u8, number: u64 },
 }

@@ -1,8 +1,8 @@
 use Rattle.std.proofs.Common.{◌≡◌, ◌<◌, List, All, Any, length, take, true, false}
 use Rattle.sessions.specs.declared.command.Command.{Command}
-use Rattle.verdicts.specs.Execution.{BeginsWith, IsAt}
+use Rattle.verdicts.specs.Execution.{IsAt}
 use Rattle.verdicts.specs.Explaining.{HasTold}
-use Rattle.verdicts.specs.Verdicts.{RestsOn}
+use Rattle.verdicts.specs.Verdicts.{BeginsWith, RestsOn}
 use Rattle.verdicts.specs.declared.lines.ToldLine.{ToldLine}
 use Rattle.verdicts.proofs.examination.examine_lines.Given as goal
 

@@ -1,10 +1,11 @@
-use Rattle.std.proofs.Common.{Global, Vec, ◌≡◌, ◌++◌, ◌∷◌, [], ℕ, List, Contains, Some, slice_get, length, refl, sym, ap, subst, ◌∙◌}
+use Rattle.std.proofs.Common.{Global, Vec, ◌≡◌, ◌≢◌, ◌++◌, ◌∷◌, [], ℕ, List, Contains, Some, slice_get, length, refl, sym, ap, subst, ◌∙◌}
 use Rattle.std.proofs.lemmas.List.{take_all}
+use Rattle.std.proofs.lemmas.List.Quantifiers.{all_pairs_push}
 use Rattle.std.proofs.lemmas.Option.{slice_get_read}
 use Rattle.sessions.specs.declared.submission.Submission.{Submission}
 use Rattle.verdicts.proofs.SearchLemmas.{each_added, whole_added, whole_kept}
-use Rattle.verdicts.proofs.search.operations_of.Goals as goal
-use Rattle.verdicts.proofs.search.operations_of.Goals.{then-is_new+in_ok-push, else-is_new}
+use Rattle.verdicts.proofs.search.add_operations.Goals as goal
+use Rattle.verdicts.proofs.search.add_operations.Goals.{then-is_new+in_ok-push, else-is_new}
 
 pub loop-place-preserved : goal.loop-place-preserved
 loop-place-preserved c =
@@ -18,9 +19,12 @@ loop-place-preserved c =
       | then-is_new+in_ok-push w ↦
           let items : c.if-is_new.places.items ≡ c.loop-place.places.items ++ place ∷ [] =
           ap (λ (v : Vec ℕ Global). v.items) w.places-is ∙ w.in_ok-push.ensures.items in
+          let unlisted = rw c.deref.ensures.value at c.is_new.ensures.unlisted w.if-is_new.true in
           rw items (record {
             each = each_added requests c.args.client c.args.number c.loop-place.places.items place r here was.each was.whole
                 (c.is_new.ensures.wanted w.if-is_new.true);
+            unlike = all_pairs_push (λ (a b : ℕ). slice_get requests a ≢ slice_get requests b) c.loop-place.places.items place was.unlike
+                (λ k d within e. unlisted k d within (e ∙ here));
             whole = whole_added requests c.args.client c.args.number c.loop-place.places.items place r here was.each was.whole;
           })
       | else-is_new w ↦
@@ -28,12 +32,13 @@ loop-place-preserved c =
           let listed = rw c.deref.ensures.value at c.is_new.ensures.listed w.if-is_new.false in
           rw items (record {
             each = was.each;
+            unlike = was.unlike;
             whole = whole_kept requests c.args.client c.args.number c.loop-place.places.items place r here was.each was.whole listed;
           })
     ]
 
-pub returns : goal.returns
-returns c = record {
+pub returns-clause-operations : goal.returns-clause-operations
+returns-clause-operations c = record {
   each = c.loop-place.invariant.each;
   whole = λ r there is.
       c.loop-place.invariant.whole r

@@ -1,0 +1,15 @@
+use Rattle.std.proofs.Common.{ℕ, List}
+use Rattle.verdicts.specs.Search.{IsOperation}
+use Rattle.verdicts.proofs.PairLemmas.{all_reverse, contains_reverse}
+use Rattle.verdicts.proofs.search.choices_at.Goals as goal
+
+pub returns-clause-operations : goal.returns-clause-operations
+returns-clause-operations c =
+    let was = c.in_ok-add_operations.ensures.operations in
+    let places : List ℕ = c.add_operations.new.places.items in
+    rw c.reverse.ensures.items (record {
+      each = all_reverse (IsOperation c.args.requests.now c.args.client c.args.number) places was.each;
+      whole = λ r there is.
+          let h = was.whole r there is in
+          record { place = h.place; listed = contains_reverse places h.place h.listed; there = h.there };
+    })
