@@ -20,27 +20,23 @@ const WIDTH: i64 = 10_000;
 /// From place to place anywhere, from side to side, and a little on each time.
 const MOTIONS: u16 = 3;
 
-/// The first and the last millisecond of periods: that hold all, some legs, one block, a part of a leg and an instant on it, that touch the
-/// first position and the last, and that miss them.
-const PERIODS: [(i64, i64); 8] = [
+/// The first and the last millisecond of periods: that hold all, some legs and a part of one, one block, and one instant on a leg; that touch
+/// the first position and the last; and that miss all.
+const PERIODS: [(i64, i64); 7] = [
     (0, 900_000),
     (120_300, 180_000),
     (132_000, 164_000),
-    (140_250, 140_750),
     (140_500, 140_500),
     (0, 100_000),
     (197_000, 900_000),
     (197_001, 900_000),
 ];
 
-/// The side of the rectangles that lie anywhere.
-const SIDES: [i64; 2] = [300, 4_000];
+/// Features that rectangles touch: at the middle of a leg, with each motion, and where they are listed, with each motion and interpolation.
+const TOUCHED: [(usize, usize); 3] = [(0, 0), (1, 4), (2, 8)];
 
-/// Features that rectangles touch: all motions of straight ways, one of stays, and one of listed instants alone.
-const TOUCHED: [usize; 5] = [0, 1, 2, 4, 8];
-
-/// They touch the leg from this position to the next.
-const LEG: usize = 40;
+/// The place of the leg among the legs, and of the position where they are listed.
+const TOUCHED_LEG: usize = 40;
 
 /// Numbers that come as if by chance.
 #[derive(Drop)]
@@ -143,28 +139,30 @@ fn square(x: i64, y: i64, side: i64) -> Result<Rect, Fail> {
     Ok(Rect::new(x, y, x.wrapping_add(side), y.wrapping_add(side)).ok_or("a rectangle")?)
 }
 
-/// One that is a listed position, and one with a corner at the middle of a leg.
-fn push_touching(areas: &mut Vec<Rect>, seq: &Seq) -> Result<(), Fail> {
-    let from = seq.points().get(LEG).ok_or("a leg")?;
-    let to = seq.points().get(LEG + 1).ok_or("a leg")?;
+/// A rectangle that is a listed position.
+fn area_at(seq: &Seq) -> Result<Rect, Fail> {
+    let at = seq.points().get(TOUCHED_LEG).ok_or("a position")?;
+    square(at.x, at.y, 0)
+}
+
+/// A rectangle with a corner in the middle of a leg.
+fn area_on_leg(seq: &Seq) -> Result<Rect, Fail> {
+    let from = seq.points().get(TOUCHED_LEG).ok_or("a leg")?;
+    let to = seq.points().get(TOUCHED_LEG + 1).ok_or("a leg")?;
     let x = from.x.wrapping_add(to.x) / 2;
     let y = from.y.wrapping_add(to.y) / 2;
-    areas.push(square(from.x, from.y, 0)?)?;
-    areas.push(square(x, y, 300)?)?;
-    Ok(())
+    square(x, y, 300)
 }
 
 /// Rectangles that have all of the features, that have none, that lie anywhere, and that touch some.
 fn areas(alloc: Global, numbers: &mut Numbers, seqs: &[Seq]) -> Result<Vec<Rect>, Fail> {
     let mut areas = Vec::new(alloc);
-    areas.push(Rect::new(-WIDTH, -WIDTH, 2 * WIDTH, 2 * WIDTH).ok_or("all")?)?;
+    areas.push(square(-WIDTH, -WIDTH, 3 * WIDTH)?)?;
     areas.push(square(3 * WIDTH, 3 * WIDTH, WIDTH)?)?;
-    for side in SIDES {
-        areas.push(square(numbers.below(WIDTH), numbers.below(WIDTH), side)?)?;
-    }
-    for feature in TOUCHED {
-        let seq = seqs.get(feature).ok_or("a feature")?;
-        push_touching(&mut areas, seq)?;
+    areas.push(square(numbers.below(WIDTH), numbers.below(WIDTH), 3_000)?)?;
+    for (on_leg, at) in TOUCHED {
+        areas.push(area_on_leg(seqs.get(on_leg).ok_or("a feature")?)?)?;
+        areas.push(area_at(seqs.get(at).ok_or("a feature")?)?)?;
     }
     Ok(areas)
 }
