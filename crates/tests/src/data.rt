@@ -11,6 +11,7 @@ mod frames;
 mod lines;
 mod packets;
 mod pictures;
+mod plain_scan;
 mod records;
 mod rectangles;
 mod reports;
