@@ -9,7 +9,7 @@ use Rattle.diagram.specs.declared.scene.Sign.TheVariants.{Submitted, TimedOut, L
 abbrev pub square_text : List ℕ → Place → List ℕ
 square_text class at = rectangle_text class (record { x = at.x - 200; y = at.y - 200 }) 400 400
 
--- each sign has its shape and its class: circles for what a client sees, and squares for what goes wrong and how it goes on
+-- the shape of each sign, and its class: circles, and squares for what was refused and for a node that stops and begins again
 abbrev pub sign_text : Sign → Place → List ℕ
 sign_text Learnt at = circle_text (codes "sign learnt") at 220
 sign_text Replied at = circle_text (codes "sign replied") at 220
