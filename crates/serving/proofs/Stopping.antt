@@ -152,7 +152,8 @@ module _ {S : Type 0} (storages : Ghosts S) where
 
     pub stops_ticking : (p q : ProcessState S) (position : ℕ) (asked : Bool) (looked : TimingState) (fault : TurnFault) (n : NodeState S)
         → IsPosition p.life.node position → asked ≡ is_asked_in p → looked ≡ position_seen position asked now p.timing
-        → IsGivenWhere storages (IsCampaignDue position asked now looked) input.Timeout (campaigned now looked) p.life looked q.life q.timing
+        → IsGivenWhere storages (IsCampaignDue position asked now looked) input.Timeout (campaigned now looked)
+        p.life looked q.life q.timing
         → IsTickDue position asked now q.timing → EndsAt storages (IsGiven input.Tick) q.life.node fault n
         → StopsKeepingTime storages now p fault n
     stops_ticking p q position asked looked fault n at is seen campaigns due ends =
@@ -341,7 +342,8 @@ module _ {S : Type 0} (storages : Ghosts S) where
           → PassesBoth carried Carries talk Talks (λ sent said. TellsOrNot storages now p sent said q has) n d m e
           → StopsBehind storages now q [] [] fault end → BothBreak p n d m e fault end
       both_break_still p q n m d e has fault end h k =
-          let all = both_break_told p q n m d e e has fault end h (record { passed = []; are = k; passes = passes_none talk Talks e }) in all
+          let all = both_break_told p q n m d e e has fault end h
+          (record { passed = []; are = k; passes = passes_none talk Talks e }) in all
 
       pub both_break_sent : (p q : ProcessState S) (n m o : N) (d e : D) (has : Bool) (end : NodeState S)
           → PassesBoth carried Carries talk Talks (λ sent said. TellsOrNot storages now p sent said q has) n d m e
@@ -456,7 +458,8 @@ module _ {S : Type 0} (storages : Ghosts S) where
     -- while it keeps its records
     pub stops_at_records : (p timed own : ProcessState S) (life : LifeState S) (knows : TimingState) (fault : TurnFault) (end : NodeState S)
         → KeepsTime storages now p life knows → timed ≡ record p { life = life; timing = knows }
-        → Moves storages now Taking timed [] [] own → StopsKeepingRecords storages own.life fault end → StopsGoingOn storages now p fault end
+        → Moves storages now Taking timed [] [] own → StopsKeepingRecords storages own.life fault end
+        → StopsGoingOn storages now p fault end
     stops_at_records p timed own life knows fault end keeps same moves stops = record {
       life = life;
       knows = knows;

@@ -44,7 +44,8 @@ IsFor found turn_fault.Memory = found ≡ node_fault.Memory
 IsFor found (turn_fault.Node fault) = (found ≡ fault) × IsCause fault
 
 -- at most one such thing happened to its node, and it ends with this fault
-pub data EndsAt {S : Type 0} (storages : Ghosts S) (IsSuch : Happening → Type 0) (old : NodeState S) : TurnFault → NodeState S → Type 0 where
+pub data EndsAt {S : Type 0} (storages : Ghosts S) (IsSuch : Happening → Type 0) (old : NodeState S)
+    : TurnFault → NodeState S → Type 0 where
   -- memory was wanting before it happened
   before : (new : NodeState S) → new ≡ old → EndsAt storages IsSuch old turn_fault.Memory new
   -- or behind it: the node did it, or refused it and is up

@@ -307,7 +307,8 @@ impl<S: Stable + Drop> Server<S> {
     // The node takes what the process gives it by itself.
     fn give(&mut self, alloc: Global, input: Input) -> Result<(), TurnFault>
         requires { IsOfProcess input }
-        ensures stops { IfErr result (λ fault. EndsAt S.Stable (IsGiven input) (life_of self.old.life).node fault (life_of self.new.life).node) }
+        ensures stops { IfErr result (λ fault.
+            EndsAt S.Stable (IsGiven input) (life_of self.old.life).node fault (life_of self.new.life).node) }
         ensures ends { IfErr result (HasEnded (life_of self.new.life).node) }
         ensures gives { OnOk result (WasGiven S.Stable (life_of self.old.life) input (life_of self.new.life)) }
         ensures serves { Serves S.Stable (server_of self.old) [] [] (server_of self.new) }
