@@ -118,7 +118,7 @@ returns-in_err-line-in-Some-clause-stops g c =
     rw p.1 (ends_behind g.S.Stable IsOfOthers (life_of c.args.self.now.life) (life_of c.take-outcome.new.self) c.input_of.result p.0 p.2
     (λ result no. subst IsOfProcess c.input_of.ensures no)
     (was_given g.S.Stable (life_of c.args.self.now.life) (life_of c.take-outcome.new.self) c.input_of.result c.take-outcome.result
-    c.in_ok-fault.fault c.take-outcome.ensures c.in_ok-fault.ensures))
+    c.in_ok-fault.field-0 c.take-outcome.ensures c.in_ok-fault.ensures))
 
 pub returns-in_err-add_due-in-Some-clause-stops : goal.returns-in_err-add_due-in-Some-clause-stops
 returns-in_err-add_due-in-Some-clause-stops g c =
@@ -126,7 +126,7 @@ returns-in_err-add_due-in-Some-clause-stops g c =
     rw p.1 (ends_behind g.S.Stable IsOfOthers (life_of c.args.self.now.life) (life_of c.take-outcome.new.self) c.input_of.result p.0 p.2
     (λ result no. subst IsOfProcess c.input_of.ensures no)
     (was_given g.S.Stable (life_of c.args.self.now.life) (life_of c.take-outcome.new.self) c.input_of.result c.take-outcome.result
-    c.in_ok-fault.fault c.take-outcome.ensures c.in_ok-fault.ensures))
+    c.in_ok-fault.field-0 c.take-outcome.ensures c.in_ok-fault.ensures))
 
 pub returns-in_err-add_claim-in-None-clause-stops : goal.returns-in_err-add_claim-in-None-clause-stops
 returns-in_err-add_claim-in-None-clause-stops g c =
@@ -134,7 +134,7 @@ returns-in_err-add_claim-in-None-clause-stops g c =
     rw p.1 (ends_behind g.S.Stable IsOfOthers (life_of c.args.self.now.life) (life_of c.take-outcome.new.self) c.input_of.result p.0 p.2
     (λ result no. subst IsOfProcess c.input_of.ensures no)
     (was_given g.S.Stable (life_of c.args.self.now.life) (life_of c.take-outcome.new.self) c.input_of.result c.take-outcome.result
-    c.in_ok-fault.fault c.take-outcome.ensures c.in_ok-fault.ensures))
+    c.in_ok-fault.field-0 c.take-outcome.ensures c.in_ok-fault.ensures))
 
 pub returns-in_err-add-in-None-clause-stops : goal.returns-in_err-add-in-None-clause-stops
 returns-in_err-add-in-None-clause-stops g c =
@@ -142,4 +142,4 @@ returns-in_err-add-in-None-clause-stops g c =
     rw p.1 (ends_behind g.S.Stable IsOfOthers (life_of c.args.self.now.life) (life_of c.take-outcome.new.self) c.input_of.result p.0 p.2
     (λ result no. subst IsOfProcess c.input_of.ensures no)
     (was_given g.S.Stable (life_of c.args.self.now.life) (life_of c.take-outcome.new.self) c.input_of.result c.take-outcome.result
-    c.in_ok-fault.fault c.take-outcome.ensures c.in_ok-fault.ensures))
+    c.in_ok-fault.field-0 c.take-outcome.ensures c.in_ok-fault.ensures))
