@@ -7,7 +7,7 @@ use Rattle.serving.proofs.Moving.{both_taken, moves_then}
 use Rattle.serving.proofs.Passing.{over_kept, over_nodes, over_told}
 use Rattle.std.proofs.Common.{List}
 use Rattle.serving.specs.Resting.{HasRead}
-use Rattle.serving.specs.Tapes.{Carried, Talk, polled, read}
+use Rattle.serving.specs.Tapes.{Carried, polled}
 use Rattle.serving.proofs.Breaking.{breaks_behind_lines, breaks_still, breaks_then, frames_kept, on_err}
 use Rattle.serving.proofs.Stopping.{both_stop_behind, both_stop_frames, both_stop_lines, both_stop_timing, stops_at_own, stops_at_records}
 use Rattle.std.proofs.lemmas.Result.{err_from_is_err_and}

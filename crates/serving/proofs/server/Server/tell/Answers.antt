@@ -186,8 +186,8 @@ returns-in_err-has_told-clause-stops g c =
     let away = process_of c.turn_away.new.self in
     let held = c.in_ok-has_replied.ensures.held in
     let held_then = ap (λ l. (life_of l).held) c.turn_away.ensures.life ∙ c.in_ok-has_answered.ensures.held held in
-    let p = err_from_is_err_and c.from_residual-in_err-has_told.result c.from_residual-in_err-has_told.ensures.1 in
-    rw (p.1, p.2) (both_break_told g.S.Stable c.args.now g.N.Network.tape g.N.Network.Tells g.D.Desk.tape g.D.Desk.Tells p away _ _ _ _ _ _ _ _
+    let x = err_from_is_err_and c.from_residual-in_err-has_told.result c.from_residual-in_err-has_told.ensures.1 in
+    rw (x.1, x.2) (both_break_told g.S.Stable c.args.now g.N.Network.tape g.N.Network.Tells g.D.Desk.tape g.D.Desk.Tells p away _ _ _ _ _ _ _ _
     (both_quiet g.S.Stable c.args.now g.N.Network.tape g.N.Network.Tells g.D.Desk.tape g.D.Desk.Tells p ripe away _ _ _ _ _
     (both_told g.S.Stable c.args.now g.N.Network.tape g.N.Network.Tells g.D.Desk.tape g.D.Desk.Tells p out ripe _ _ _ _ _ _ _
     c.in_ok-has_replied.ensures.moves (c.in_ok-has_answered.ensures.moves c.args.now held))
@@ -205,8 +205,8 @@ returns-in_err-hand_on-clause-stops g c =
     let told = process_of c.tell_due.new.self in
     let held = c.in_ok-has_replied.ensures.held in
     let held_then = ap (λ l. (life_of l).held) c.turn_away.ensures.life ∙ c.in_ok-has_answered.ensures.held held in
-    let p = err_from_is_err_and c.from_residual-in_err-hand_on.result c.from_residual-in_err-hand_on.ensures.1 in
-    rw (p.1, p.2, c.in_err-hand_on.ensures.memory) (both_break_sent g.S.Stable c.args.now g.N.Network.tape g.N.Network.Tells g.D.Desk.tape g.D.Desk.Tells p told _ _ _ _ _ _ _
+    let x = err_from_is_err_and c.from_residual-in_err-hand_on.result c.from_residual-in_err-hand_on.ensures.1 in
+    rw (x.1, x.2, c.in_err-hand_on.ensures.memory) (both_break_sent g.S.Stable c.args.now g.N.Network.tape g.N.Network.Tells g.D.Desk.tape g.D.Desk.Tells p told _ _ _ _ _ _ _
     (both_told g.S.Stable c.args.now g.N.Network.tape g.N.Network.Tells g.D.Desk.tape g.D.Desk.Tells p away told _ _ _ _ _ _ _
     (both_quiet g.S.Stable c.args.now g.N.Network.tape g.N.Network.Tells g.D.Desk.tape g.D.Desk.Tells p ripe away _ _ _ _ _
     (both_told g.S.Stable c.args.now g.N.Network.tape g.N.Network.Tells g.D.Desk.tape g.D.Desk.Tells p out ripe _ _ _ _ _ _ _
