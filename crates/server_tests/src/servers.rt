@@ -1,6 +1,7 @@
 //! What clients of three processes are told.
 
 use crate::processes::Trio;
+use node_model::NodeFault;
 use serving::{MOST_CLAIMS, MOST_IN_A_TURN, TurnFault};
 use std::fs;
 use std::test::Fail;
@@ -177,10 +178,18 @@ fn so_many_lines_of_a_connection_wait_at_most(rt: HostRuntime) -> Result<(), Fai
     Ok(())
 }
 
+// Why a process ends, and what it says.
+const ENDS: [(TurnFault, &str); 3] = [
+    (TurnFault::Memory, "out of memory"),
+    (TurnFault::Node(NodeFault::Device), "the storage failed"),
+    (TurnFault::Node(NodeFault::Down), "the node is down"),
+];
+
 #[test]
-fn a_process_says_that_memory_ran_out(rt: HostRuntime) -> Result<(), Fail> {
-    let fault = TurnFault::Memory;
-    let told = format!(in rt.alloc(); "{fault}")?;
-    assert_eq!(rt; told.as_str(), "out of memory");
+fn a_process_says_why_it_ends(rt: HostRuntime) -> Result<(), Fail> {
+    for (fault, words) in ENDS {
+        let told = format!(in rt.alloc(); "{fault}")?;
+        assert_eq!(rt; told.as_str(), words);
+    }
     Ok(())
 }

@@ -1,4 +1,4 @@
--- A process that ends with a fault of its node: that is down.
+-- A process that ends: with the fault that its node had last, or for want of memory.
 use Rattle.std.proofs.Common.{◌≡◌, ◌≢◌, Bool, true, false, if◌then◌else◌, Option, Some, None, IfSome, MatchBool, Result, Ok, Err, inl, inr, refl, sym, ap, subst, ◌∙◌}
 use Rattle.store.specs.declared.query.Query.{Query}
 use Rattle.stable.specs.declared.stable.Stable.{Ghosts}
@@ -9,12 +9,15 @@ use Rattle.node_model.specs.declared.fault.NodeFault.{NodeFault}
 use Rattle.node_model.specs.declared.fault.NodeFault.TheVariants as node_fault
 use Rattle.node_model.specs.declared.input.Input.{Input}
 use Rattle.node_model.specs.declared.input.Input.TheVariants as input
-use Rattle.world_model.specs.Lives.{Asked, Happens, Took}
+use Rattle.node_model.specs.Outputs.{Response}
+use Rattle.world_model.specs.Lives.{Asked, Happening, Happens, Took}
 use Rattle.life.specs.Lives.{Does, LifeState, TakesBack}
 use Rattle.life.specs.declared.fault.LifeFault.{LifeFault}
 use Rattle.life.specs.declared.fault.LifeFault.TheVariants as life_fault
-use Rattle.serving.specs.Refusals.{IsEnd, IsRefusal}
-use Rattle.serving.specs.Staying.{HasEnded, IsCause}
+use Rattle.serving.specs.Ending.{EndsAt, HasEnded, IsAsked, IsCause, IsOfOthers, fault_in}
+use Rattle.serving.specs.Ending.EndsAt.{at_it, before, behind}
+use Rattle.serving.specs.Refusals.{IsEnd, IsRefusal, IsRefused}
+use Rattle.serving.specs.Staying.{WasGiven}
 use Rattle.serving.specs.declared.fault.TurnFault.{TurnFault}
 use Rattle.serving.specs.declared.fault.TurnFault.TheVariants as turn_fault
 
@@ -175,3 +178,71 @@ module _ {S : Type 0} (storages : Ghosts S) where
           subst (λ (o : Option ReplicaState). IfSome o (λ k. found ≡ node_fault.Memory)) is answers.memory in
           let stops : is_stop_fault found ≡ true = ap is_stop_fault memory in
           absurd (cc)
+
+  -- ---- what happened to its node last
+  -- nothing did
+  pub ends_before : (IsSuch : Happening → Type 0) (old new : NodeState S) (fault : TurnFault) → fault ≡ turn_fault.Memory → new ≡ old
+      → EndsAt storages IsSuch old fault new
+  ends_before IsSuch old new fault is same = subst (λ (f : TurnFault). EndsAt storages IsSuch old f new) (sym is) (before new same)
+
+  refused_at_most : (given : Input) (result : Result Response NodeFault) → ((fault : NodeFault) → result ≡ Err fault → IsRefused fault)
+      → IfSome (fault_in (Took given result)) IsRefused
+  refused_at_most given (Ok said) h = tt
+  refused_at_most given (Err fault) h = h fault refl
+
+  -- it was given this, and goes on
+  pub ends_behind : (IsSuch : Happening → Type 0) (old new : LifeState S) (given : Input) (fault : TurnFault) → fault ≡ turn_fault.Memory
+      → ((result : Result Response NodeFault) → IsSuch (Took given result)) → WasGiven storages old given new
+      → EndsAt storages IsSuch old.node fault new.node
+  ends_behind IsSuch old new given fault is such h =
+      subst (λ (f : TurnFault). EndsAt storages IsSuch old.node f new.node) (sym is)
+      (behind (Took given h.result) new.node (such h.result) h.takes.happens (refused_at_most given h.result h.goes_on))
+
+  -- it ends the process
+  at_input : (IsSuch : Happening → Type 0) (old new : NodeState S) (given : Input) (found : NodeFault) (fault : TurnFault)
+      → IsSuch (Took given (Err found)) → Happens storages old (Took given (Err found)) new
+      → IsRefusal (Err (life_fault.Node found)) (Err fault) → EndsAt storages IsSuch old fault new
+  at_input IsSuch old new given found turn_fault.Memory such h (inl is) = absurd (cc)
+  at_input IsSuch old new given found turn_fault.Memory such h (inr is) =
+      let same : found ≡ node_fault.Memory = cc in
+      at_it (Took given (Err found)) found turn_fault.Memory new such h refl same
+  at_input IsSuch old new given found (turn_fault.Node other) such h refusal =
+      let same : found ≡ other = let is = refusal.0 in cc in
+      let ended = input_ended old new given found (turn_fault.Node other) h refusal in
+      at_it (Took given (Err found)) found (turn_fault.Node other) new such h refl (same, ended.0)
+
+  pub ends_took : (IsSuch : Happening → Type 0) (old new : LifeState S) (given : Input) (outcome : Result (Unit {0}) LifeFault)
+      (fault : TurnFault) → ((result : Result Response NodeFault) → IsSuch (Took given result)) → Does storages old (Took given) outcome new
+      → IsRefusal outcome (Err fault) → EndsAt storages IsSuch old.node fault new.node
+  ends_took IsSuch old new given (Ok done) turn_fault.Memory such does (inl is) = absurd (cc)
+  ends_took IsSuch old new given (Ok done) turn_fault.Memory such does (inr is) = absurd (cc)
+  ends_took IsSuch old new given (Ok done) (turn_fault.Node found) such does refusal = let is = refusal.0 in absurd (cc)
+  ends_took IsSuch old new given (Err life_fault.Memory) turn_fault.Memory such does refusal =
+      before new.node (ap (λ (l : LifeState S). l.node) does)
+  ends_took IsSuch old new given (Err life_fault.Memory) (turn_fault.Node found) such does refusal = let is = refusal.0 in absurd (cc)
+  ends_took IsSuch old new given (Err (life_fault.Node found)) fault such does refusal =
+      at_input IsSuch old.node new.node given found fault (such (Err found)) does.happens refusal
+
+  pub ends_back : (old new : LifeState S) (found : LifeFault) (fault : TurnFault) → TakesBack storages old (Err found) new
+      → IsRefusal (Err found) (Err fault) → EndsAt storages IsOfOthers old.node fault new.node
+  ends_back old new life_fault.Memory turn_fault.Memory takes refusal = before new.node (ap (λ (l : LifeState S). l.node) takes)
+  ends_back old new life_fault.Memory (turn_fault.Node found) takes refusal = let is = refusal.0 in absurd (cc)
+  ends_back old new (life_fault.Node found) fault takes refusal =
+      at_input IsOfOthers old.node new.node (input.Message takes.first) found fault (λ no. no) takes.goes_on.happens refusal
+
+  pub ends_asked : (old new : LifeState S) (query : Query) (outcome : Result (Unit {0}) LifeFault) (fault : TurnFault)
+      → Does storages old (Asked query) outcome new → IsRefusal outcome (Err fault) → EndsAt storages IsAsked old.node fault new.node
+  ends_asked old new query (Ok done) turn_fault.Memory does (inl is) = absurd (cc)
+  ends_asked old new query (Ok done) turn_fault.Memory does (inr is) = absurd (cc)
+  ends_asked old new query (Ok done) (turn_fault.Node found) does refusal = let is = refusal.0 in absurd (cc)
+  ends_asked old new query (Err life_fault.Memory) turn_fault.Memory does refusal =
+      before new.node (ap (λ (l : LifeState S). l.node) does)
+  ends_asked old new query (Err life_fault.Memory) (turn_fault.Node found) does refusal = let is = refusal.0 in absurd (cc)
+  ends_asked old new query (Err (life_fault.Node found)) turn_fault.Memory does (inl is) = absurd (cc)
+  ends_asked old new query (Err (life_fault.Node found)) turn_fault.Memory does (inr is) =
+      let same : found ≡ node_fault.Memory = cc in
+      at_it (Asked query (Err found)) found turn_fault.Memory new.node tt does.happens refl same
+  ends_asked old new query (Err (life_fault.Node found)) (turn_fault.Node other) does refusal =
+      let same : found ≡ other = let is = refusal.0 in cc in
+      let ended = asked_ended old new query (Err (life_fault.Node found)) (turn_fault.Node other) does refusal in
+      at_it (Asked query (Err found)) found (turn_fault.Node other) new.node tt does.happens refl (same, ended.0)

@@ -1,5 +1,5 @@
 -- What comes of a packet that hands on a request.
-use Rattle.std.proofs.Common.{◌≡◌, ◌<◌, ◌≤◌, ◌↔◌, ℕ, nat_le, Bool, true, false, IsTrue, List, Option, Some, None, MatchOption, Result, Ok, Err, OnOk, refl, subst}
+use Rattle.std.proofs.Common.{◌≡◌, ◌<◌, ◌≤◌, ◌↔◌, ℕ, nat_le, Bool, true, false, IsTrue, List, Option, Some, None, MatchOption, Result, Ok, Err, IfErr, OnOk, refl, subst}
 use Rattle.std.proofs.lemmas.Bool.{leb-false, leb-true}
 use Rattle.sessions.specs.Machines.{last_number}
 use Rattle.sessions.specs.Sessions.{session_of}
@@ -57,3 +57,7 @@ module _ {S : Type 0} (storages : Ghosts S) (text : List ℕ) (old : LifeState S
 pub on_ok_so : {A E X Y : Type 0} (result : Result A E) → (X → Y) → OnOk result X → OnOk result Y
 on_ok_so (Ok done) f h = f h
 on_ok_so (Err fault) f h = tt
+
+pub on_fault_so : {A E : Type 0} (result : Result A E) {P Q : E → Type 0} → ((fault : E) → P fault → Q fault) → IfErr result P → IfErr result Q
+on_fault_so (Ok done) f h = tt
+on_fault_so (Err fault) f h = f fault h

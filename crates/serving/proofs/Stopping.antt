@@ -1,36 +1,34 @@
 -- A turn that breaks off did so much of a turn, in its order.
-use Rattle.std.proofs.Common.{◌≡◌, ◌<◌, ◌≤◌, ℕ, ◌+◌, Bool, List, [], ◌∷◌, ◌++◌, All, length, take, get_or, slice_get, Option, Some, Result, Ok, Err, OnErr, inl, inr, refl, sym, ap, subst, ◌∙◌, arith, append-nil, append_assoc}
+use Rattle.std.proofs.Common.{◌≡◌, ◌<◌, ◌≤◌, ℕ, ◌+◌, Bool, List, [], ◌∷◌, ◌++◌, All, length, take, get_or, Option, Some, inl, inr, refl, sym, ap, subst, ◌∙◌, arith, append-nil, append_assoc}
 use Rattle.std.specs.List.{HoldsAt}
-use Rattle.std.proofs.lemmas.List.{length-append}
 use Rattle.std.proofs.lemmas.Option.{slice_get-get_or}
-use Rattle.std.proofs.lemmas.List.Elements.{All-append, All-cons, All-nil}
+use Rattle.std.proofs.lemmas.List.Elements.{All-cons, All-nil}
 use Rattle.stable.specs.declared.stable.Stable.{Ghosts}
-use Rattle.store.specs.declared.query.Query.{Query}
 use Rattle.wire.specs.declared.frames.envelope.Envelope.{Envelope}
 use Rattle.node_model.specs.Nodes.{NodeState}
-use Rattle.node_model.specs.declared.input.Input.{Input}
 use Rattle.node_model.specs.declared.input.Input.TheVariants as input
-use Rattle.world_model.specs.Lives.{Asked, Happening, IsLife, Took}
 use Rattle.world_model.specs.declared.lists.Replied.{Replied}
-use Rattle.life.specs.Lives.{Does, LifeState, TakesBack}
+use Rattle.life.specs.Lives.{LifeState}
 use Rattle.life.specs.Telling.{nothing}
-use Rattle.life.specs.declared.fault.LifeFault.{LifeFault}
-use Rattle.life.specs.declared.fault.LifeFault.TheVariants.{Memory, Node}
-use Rattle.serving.specs.Moves.{AreRepliesTold, HandsOnSome, IsBrokenOff, IsGivenWhere, KeepsTime, LetsOutSome, Moves, StopsBehind, StopsHandingOn, StopsTaking, StopsTelling, Taking, TakesAll, Telling, TellsOrNot}
-use Rattle.serving.specs.Moves.IsBrokenOff.{behind_the_time, while_taking, while_telling}
+use Rattle.serving.specs.Ending.{EndsAt, IsAsked, IsGiven, IsOfOthers}
+use Rattle.serving.specs.Moves.{AreRepliesTold, HandsOnSome, HasTaken, IsBrokenOff, IsGivenWhere, KeepsTime, LetsOutSome, Moves, StopsBehind, StopsGoingOn, StopsHandingOn, StopsKeepingRecords, StopsKeepingTime, StopsTaking, StopsTelling, Taking, TakesAll, Telling, TellsOrNot}
+use Rattle.serving.specs.Moves.IsBrokenOff.{at_the_time, behind_the_time, while_taking, while_telling}
 use Rattle.serving.specs.Moves.LetsOutSome.{some_frames, some_replies}
 use Rattle.serving.specs.Moves.Moves.{none}
+use Rattle.serving.specs.Moves.StopsKeepingTime.{at_campaign, at_tick}
 use Rattle.serving.specs.Moves.StopsTelling.{behind, handing_on, letting_out}
+use Rattle.serving.specs.Knowing.{IsPosition}
 use Rattle.serving.specs.Outgoing.{AreFramesOf, ArePacketsOf, IsArrival}
 use Rattle.serving.specs.Owing.{reply_told}
-use Rattle.serving.specs.Processes.{ProcessState}
+use Rattle.serving.specs.Processes.{ProcessState, is_asked_in}
 use Rattle.serving.specs.Requesting.{HandsOnFirst, RequestState}
 use Rattle.serving.specs.Resting.{HasRead, IsFull}
 use Rattle.serving.specs.Serving.{Passes, PassesBoth}
-use Rattle.serving.specs.Staying.{IsNear, IsOfTurn, WasGiven}
 use Rattle.serving.specs.Tapes.{Arrived, Carried, HasPassed, IsHeard, Talk, polled, read}
-use Rattle.serving.specs.Timings.{TimingState, leader_in}
+use Rattle.serving.specs.Timings.{IsCampaignDue, IsTickDue, TimingState, campaigned, leader_in, position_seen}
 use Rattle.serving.specs.declared.claims.Claim.{Claim}
+use Rattle.serving.specs.declared.fault.TurnFault.{TurnFault}
+use Rattle.serving.specs.declared.fault.TurnFault.TheVariants as turn_fault
 use Rattle.serving.proofs.Moving.{moves_then}
 use Rattle.serving.proofs.MovesOut.{never_empty, packet_of_first}
 use Rattle.serving.proofs.Passing.{passes_as, passes_none, passes_then}
@@ -95,66 +93,12 @@ module _ {N D : Type 0} (carried : N → List Carried) (Carries : N → Type 0) 
   }
 
 module _ {S : Type 0} (storages : Ghosts S) where
-  -- ---- how far a node went
-  pub near_same : (most : ℕ) (a b : NodeState S) → b ≡ a → IsNear storages most a b
-  near_same most a b same = record { happened = []; each = All-nil IsOfTurn; few = omega arith; life = same }
-
-  near_one : (a b : NodeState S) (what : Happening) → IsOfTurn what → IsLife storages a (what ∷ []) b → IsNear storages 1 a b
-  near_one a b what so life =
-      record { happened = what ∷ []; each = All-cons IsOfTurn what [] so (All-nil IsOfTurn); few = omega arith; life = life }
-
-  pub near_more : (least most : ℕ) (a b : NodeState S) → least ≤ most → IsNear storages least a b → IsNear storages most a b
-  near_more least most a b le h = record { happened = h.happened; each = h.each; few = omega (arith, le, h.few); life = h.life }
-
-  life_then : (a b c : NodeState S) (xs ys : List Happening) → IsLife storages a xs b → IsLife storages b ys c
-      → IsLife storages a (xs ++ ys) c
-  life_then a b c [] ys h k = subst (λ (n : NodeState S). IsLife storages n ys c) h k
-  life_then a b c (x ∷ xs) ys h k = (h.0, h.1, life_then h.0 b c xs ys h.2 k)
-
-  pub near_then : (one two : ℕ) (a b c : NodeState S) → IsNear storages one a b → IsNear storages two b c → IsNear storages (one + two) a c
-  near_then one two a b c h k = record {
-    happened = h.happened ++ k.happened;
-    each = All-append IsOfTurn h.happened k.happened h.each k.each;
-    few = omega (arith, length-append h.happened k.happened, h.few, k.few);
-    life = life_then a b c h.happened k.happened h.life k.life;
-  }
-
-  pub near_tail : {A E : Type 0} (result : Result A E) (a b c : NodeState S) → IsNear storages 1 a b
-      → OnErr result (IsNear storages 1 b c) → OnErr result (IsNear storages 2 a c)
-  near_tail (Ok done) a b c h k = tt
-  near_tail (Err fault) a b c h k = near_then 1 1 a b c h k
-
-  pub near_took : (old new : LifeState S) (given : Input) (outcome : Result (Unit {0}) LifeFault)
-      → Does storages old (Took given) outcome new → IsNear storages 1 old.node new.node
-  near_took old new given (Ok done) h = near_one old.node new.node (Took given (Ok h.0)) tt (new.node, h.1.happens, refl)
-  near_took old new given (Err (Node fault)) h = near_one old.node new.node (Took given (Err fault)) tt (new.node, h.happens, refl)
-  near_took old new given (Err Memory) h = near_same 1 old.node new.node (ap (λ (l : LifeState S). l.node) h)
-
-  pub near_asked : (old new : LifeState S) (query : Query) (outcome : Result (Unit {0}) LifeFault)
-      → Does storages old (Asked query) outcome new → IsNear storages 1 old.node new.node
-  near_asked old new query (Ok done) h = near_one old.node new.node (Asked query (Ok h.0)) tt (new.node, h.1.happens, refl)
-  near_asked old new query (Err (Node fault)) h = near_one old.node new.node (Asked query (Err fault)) tt (new.node, h.happens, refl)
-  near_asked old new query (Err Memory) h = near_same 1 old.node new.node (ap (λ (l : LifeState S). l.node) h)
-
-  pub near_back : (old new : LifeState S) (fault : LifeFault) → TakesBack storages old (Err fault) new → IsNear storages 1 old.node new.node
-  near_back old new (Node fault) h =
-      near_one old.node new.node (Took (input.Message h.first) (Err fault)) tt (new.node, h.goes_on.happens, refl)
-  near_back old new Memory h = near_same 1 old.node new.node (ap (λ (l : LifeState S). l.node) h)
-
-  pub near_given : (old new : LifeState S) (given : Input) → WasGiven storages old given new → IsNear storages 1 old.node new.node
-  near_given old new given h = near_one old.node new.node (Took given h.result) tt (new.node, h.takes.happens, refl)
-
-  pub near_where : (Due : Type 0) (given : Input) (noted knew knows : TimingState) (old new : LifeState S)
-      → IsGivenWhere storages Due given noted old knew new knows → IsNear storages 1 old.node new.node
-  near_where Due given noted knew knows old new (inl h) = near_given old new given h.1
-  near_where Due given noted knew knows old new (inr h) = near_same 1 old.node new.node (ap (λ (l : LifeState S). l.node) h.1)
-
   module _ (now : ℕ) where
     -- ---- while it takes
-    stops_at : (p q : ProcessState S) (came last : List Carried) (heard end : List Talk) (n : NodeState S)
+    stops_at : (p q : ProcessState S) (came last : List Carried) (heard end : List Talk) (fault : TurnFault) (n : NodeState S)
         → Moves storages now Taking p came heard q → length last + length end ≤ 1 → All IsArrival last → All IsHeard end
-        → IsNear storages 2 q.life.node n → StopsTaking storages now p (came ++ last) (heard ++ end) n
-    stops_at p q came last heard end n moves one came_so heard_so near = record {
+        → EndsAt storages IsOfOthers q.life.node fault n → StopsTaking storages now p (came ++ last) (heard ++ end) fault n
+    stops_at p q came last heard end fault n moves one came_so heard_so ends = record {
       between = q;
       came_before = came;
       heard_before = heard;
@@ -166,24 +110,22 @@ module _ {S : Type 0} (storages : Ghosts S) where
       heard_so = heard_so;
       all_came = refl;
       all_heard = refl;
-      near = near;
+      ends = ends;
     }
 
     -- behind moves, at once
-    pub stops_behind : (p q : ProcessState S) (came : List Carried) (heard : List Talk) (n : NodeState S)
-        → Moves storages now Taking p came heard q → IsNear storages 2 q.life.node n → StopsTaking storages now p came heard n
-    stops_behind p q came heard n moves near =
-        subst (λ (xs : List Carried). StopsTaking storages now p xs heard n) (append-nil came)
-        (subst (λ (xs : List Talk). StopsTaking storages now p (came ++ []) xs n) (append-nil heard)
-        (stops_at p q came [] heard [] n moves (omega arith) (All-nil IsArrival) (All-nil IsHeard) near))
+    pub stops_behind : (p q : ProcessState S) (came : List Carried) (heard : List Talk) (fault : TurnFault) (n : NodeState S)
+        → Moves storages now Taking p came heard q → EndsAt storages IsOfOthers q.life.node fault n
+        → StopsTaking storages now p came heard fault n
+    stops_behind p q came heard fault n moves ends =
+        subst (λ (xs : List Carried). StopsTaking storages now p xs heard fault n) (append-nil came)
+        (subst (λ (xs : List Talk). StopsTaking storages now p (came ++ []) xs fault n) (append-nil heard)
+        (stops_at p q came [] heard [] fault n moves (omega arith) (All-nil IsArrival) (All-nil IsHeard) ends))
 
-    pub stops_at_once : (p : ProcessState S) (n : NodeState S) → IsNear storages 2 p.life.node n → StopsTaking storages now p [] [] n
-    stops_at_once p n near = stops_behind p p [] [] n (none p) near
-
-    pub stops_then : (p q : ProcessState S) (came more : List Carried) (heard told : List Talk) (n : NodeState S)
-        → Moves storages now Taking p came heard q → StopsTaking storages now q more told n
-        → StopsTaking storages now p (came ++ more) (heard ++ told) n
-    stops_then p q came more heard told n moves h = record {
+    pub stops_then : (p q : ProcessState S) (came more : List Carried) (heard told : List Talk) (fault : TurnFault) (n : NodeState S)
+        → Moves storages now Taking p came heard q → StopsTaking storages now q more told fault n
+        → StopsTaking storages now p (came ++ more) (heard ++ told) fault n
+    stops_then p q came more heard told fault n moves h = record {
       between = h.between;
       came_before = came ++ h.came_before;
       heard_before = heard ++ h.heard_before;
@@ -195,92 +137,116 @@ module _ {S : Type 0} (storages : Ghosts S) where
       heard_so = h.heard_so;
       all_came = ap (λ (xs : List Carried). came ++ xs) h.all_came ∙ sym (append_assoc came h.came_before h.last_came);
       all_heard = ap (λ (xs : List Talk). heard ++ xs) h.all_heard ∙ sym (append_assoc heard h.heard_before h.last_heard);
-      near = h.near;
+      ends = h.ends;
     }
+
+    -- ---- while it keeps the time
+    pub stops_campaigning : (p : ProcessState S) (position : ℕ) (asked : Bool) (looked : TimingState) (fault : TurnFault) (n : NodeState S)
+        → IsPosition p.life.node position → asked ≡ is_asked_in p → looked ≡ position_seen position asked now p.timing
+        → IsCampaignDue position asked now looked → EndsAt storages (IsGiven input.Timeout) p.life.node fault n
+        → StopsKeepingTime storages now p fault n
+    stops_campaigning p position asked looked fault n at is seen due ends =
+        at_campaign position at
+        (subst (λ (b : Bool). IsCampaignDue position b now (position_seen position b now p.timing)) is
+        (subst (λ (t : TimingState). IsCampaignDue position asked now t) seen due)) ends
+
+    pub stops_ticking : (p q : ProcessState S) (position : ℕ) (asked : Bool) (looked : TimingState) (fault : TurnFault) (n : NodeState S)
+        → IsPosition p.life.node position → asked ≡ is_asked_in p → looked ≡ position_seen position asked now p.timing
+        → IsGivenWhere storages (IsCampaignDue position asked now looked) input.Timeout (campaigned now looked)
+        p.life looked q.life q.timing
+        → IsTickDue position asked now q.timing → EndsAt storages (IsGiven input.Tick) q.life.node fault n
+        → StopsKeepingTime storages now p fault n
+    stops_ticking p q position asked looked fault n at is seen campaigns due ends =
+        at_tick position looked q.timing q.life at (seen ∙ ap (λ (b : Bool). position_seen position b now p.timing) is)
+        (subst (λ (b : Bool). IsGivenWhere storages (IsCampaignDue position b now looked) input.Timeout (campaigned now looked)
+        p.life looked q.life q.timing) is campaigns)
+        (subst (λ (b : Bool). IsTickDue position b now q.timing) is due) ends
 
     -- ---- over the network
     module _ {N : Type 0} (carried : N → List Carried) (Carries : N → Type 0) where
-      abbrev pub NodesStop : ProcessState S → N → N → NodeState S → Type 0
-      NodesStop p n m end = Passes carried Carries (λ came. StopsTaking storages now p came [] end) n m
+      abbrev pub NodesStop : ProcessState S → N → N → TurnFault → NodeState S → Type 0
+      NodesStop p n m fault end = Passes carried Carries (λ came. StopsTaking storages now p came [] fault end) n m
 
       -- one thing came, as a call's clauses have it
-      pub nodes_stop_at : (p : ProcessState S) (n m : N) (end : NodeState S) (passed : List Carried) (x : Carried) → passed ≡ x ∷ []
-          → IsArrival x → (Carries m → carried m ≡ carried n ++ passed) → (Carries m → Carries n) → IsNear storages 2 p.life.node end
-          → NodesStop p n m end
-      nodes_stop_at p n m end passed x is so tape told near = record {
+      pub nodes_stop_at : (p : ProcessState S) (n m : N) (fault : TurnFault) (end : NodeState S) (passed : List Carried) (x : Carried)
+          → passed ≡ x ∷ [] → IsArrival x → (Carries m → carried m ≡ carried n ++ passed) → (Carries m → Carries n)
+          → EndsAt storages IsOfOthers p.life.node fault end → NodesStop p n m fault end
+      nodes_stop_at p n m fault end passed x is so tape told ends = record {
         passed = x ∷ [];
-        are = stops_at p p [] (x ∷ []) [] [] end (none p) (omega arith) (All-cons IsArrival x [] so (All-nil IsArrival)) (All-nil IsHeard)
-            near;
+        are = stops_at p p [] (x ∷ []) [] [] fault end (none p) (omega arith) (All-cons IsArrival x [] so (All-nil IsArrival))
+            (All-nil IsHeard) ends;
         passes = passes_as carried Carries n m passed (x ∷ []) tape told is;
       }
 
       -- bytes came, and then it stopped taking its own frames
-      pub nodes_stop_own : (p q : ProcessState S) (n m : N) (end : NodeState S) (passed : List Carried) (bytes : List ℕ)
+      pub nodes_stop_own : (p q : ProcessState S) (n m : N) (fault : TurnFault) (end : NodeState S) (passed : List Carried) (bytes : List ℕ)
           → passed ≡ Arrived bytes ∷ [] → (Carries m → carried m ≡ carried n ++ passed) → (Carries m → Carries n)
-          → Moves storages now Taking p (Arrived bytes ∷ []) [] q → StopsTaking storages now q [] [] end → NodesStop p n m end
-      nodes_stop_own p q n m end passed bytes is tape told moves stops = record {
+          → Moves storages now Taking p (Arrived bytes ∷ []) [] q → StopsTaking storages now q [] [] fault end
+          → NodesStop p n m fault end
+      nodes_stop_own p q n m fault end passed bytes is tape told moves stops = record {
         passed = Arrived bytes ∷ [];
-        are = stops_then p q (Arrived bytes ∷ []) [] [] [] end moves stops;
+        are = stops_then p q (Arrived bytes ∷ []) [] [] [] fault end moves stops;
         passes = passes_as carried Carries n m passed (Arrived bytes ∷ []) tape told is;
       }
 
-      pub nodes_stop_then : (AreRead : List Carried → Type 0) (p q : ProcessState S) (n m o : N) (end : NodeState S)
-          → Passes carried Carries (λ came. Moves storages now Taking p came [] q × AreRead came) n m → NodesStop q m o end
-          → NodesStop p n o end
-      nodes_stop_then AreRead p q n m o end h k = record {
+      pub nodes_stop_then : (AreRead : List Carried → Type 0) (p q : ProcessState S) (n m o : N) (fault : TurnFault) (end : NodeState S)
+          → Passes carried Carries (λ came. Moves storages now Taking p came [] q × AreRead came) n m → NodesStop q m o fault end
+          → NodesStop p n o fault end
+      nodes_stop_then AreRead p q n m o fault end h k = record {
         passed = h.passed ++ k.passed;
-        are = stops_then p q h.passed k.passed [] [] end h.are.0 k.are;
+        are = stops_then p q h.passed k.passed [] [] fault end h.are.0 k.are;
         passes = passes_then carried Carries n m o h.passed k.passed h.passes k.passes;
       }
 
     -- ---- over the desk
     module _ {D : Type 0} (talk : D → List Talk) (Talks : D → Type 0) where
-      abbrev pub ClientsStop : ProcessState S → D → D → NodeState S → Type 0
-      ClientsStop p d e end = Passes talk Talks (λ said. StopsTaking storages now p [] said end) d e
+      abbrev pub ClientsStop : ProcessState S → D → D → TurnFault → NodeState S → Type 0
+      ClientsStop p d e fault end = Passes talk Talks (λ said. StopsTaking storages now p [] said fault end) d e
 
-      pub clients_stop_at : (p : ProcessState S) (d e : D) (end : NodeState S) (passed : List Talk) (x : Talk) → passed ≡ x ∷ []
-          → IsHeard x → (Talks e → talk e ≡ talk d ++ passed) → (Talks e → Talks d) → IsNear storages 2 p.life.node end → ClientsStop p d e end
-      clients_stop_at p d e end passed x is so tape told near = record {
+      pub clients_stop_at : (p : ProcessState S) (d e : D) (fault : TurnFault) (end : NodeState S) (passed : List Talk) (x : Talk)
+          → passed ≡ x ∷ [] → IsHeard x → (Talks e → talk e ≡ talk d ++ passed) → (Talks e → Talks d)
+          → EndsAt storages IsOfOthers p.life.node fault end → ClientsStop p d e fault end
+      clients_stop_at p d e fault end passed x is so tape told ends = record {
         passed = x ∷ [];
-        are = stops_at p p [] [] [] (x ∷ []) end (none p) (omega arith) (All-nil IsArrival) (All-cons IsHeard x [] so (All-nil IsHeard))
-            near;
+        are = stops_at p p [] [] [] (x ∷ []) fault end (none p) (omega arith) (All-nil IsArrival)
+            (All-cons IsHeard x [] so (All-nil IsHeard)) ends;
         passes = passes_as talk Talks d e passed (x ∷ []) tape told is;
       }
 
-      pub clients_stop_then : (AreRead : List Talk → Type 0) (p q : ProcessState S) (d e f : D) (end : NodeState S)
-          → Passes talk Talks (λ said. Moves storages now Taking p [] said q × AreRead said) d e → ClientsStop q e f end
-          → ClientsStop p d f end
-      clients_stop_then AreRead p q d e f end h k = record {
+      pub clients_stop_then : (AreRead : List Talk → Type 0) (p q : ProcessState S) (d e f : D) (fault : TurnFault) (end : NodeState S)
+          → Passes talk Talks (λ said. Moves storages now Taking p [] said q × AreRead said) d e → ClientsStop q e f fault end
+          → ClientsStop p d f fault end
+      clients_stop_then AreRead p q d e f fault end h k = record {
         passed = h.passed ++ k.passed;
-        are = stops_then p q [] [] h.passed k.passed end h.are.0 k.are;
+        are = stops_then p q [] [] h.passed k.passed fault end h.are.0 k.are;
         passes = passes_then talk Talks d e f h.passed k.passed h.passes k.passes;
       }
 
       -- ---- while it tells
-      abbrev pub ClientsBreak : ProcessState S → D → D → NodeState S → Type 0
-      ClientsBreak p d e end = Passes talk Talks (λ said. StopsBehind storages now p [] said end) d e
+      abbrev pub ClientsBreak : ProcessState S → D → D → TurnFault → NodeState S → Type 0
+      ClientsBreak p d e fault end = Passes talk Talks (λ said. StopsBehind storages now p [] said fault end) d e
 
-      pub clients_break : (p q : ProcessState S) (d e f : D) (has : Bool) (end : NodeState S)
+      pub clients_break : (p q : ProcessState S) (d e f : D) (has : Bool) (fault : TurnFault) (end : NodeState S)
           → Passes talk Talks (λ said. TellsOrNot storages now p [] said q has) d e → HasPassed talk Talks e [] f
-          → IsNear storages 1 q.life.node end → ClientsBreak p d f end
-      clients_break p q d e f has end h k near = record {
+          → EndsAt storages IsAsked q.life.node fault end → ClientsBreak p d f fault end
+      clients_break p q d e f has fault end h k ends = record {
         passed = h.passed ++ [];
-        are = subst (λ (xs : List Talk). StopsBehind storages now p [] xs end) (sym (append-nil h.passed))
-            (record { between = q; tells = h.are.0; near = near });
+        are = subst (λ (xs : List Talk). StopsBehind storages now p [] xs fault end) (sym (append-nil h.passed))
+            (record { between = q; tells = h.are.0; ends = ends });
         passes = passes_then talk Talks d e f h.passed [] h.passes k;
       }
 
-    pub breaks_moved : (p q : ProcessState S) (n : NodeState S) → Moves storages now Telling p [] [] q → IsNear storages 1 q.life.node n
-        → StopsBehind storages now p [] [] n
-    breaks_moved p q n moves near = record { between = q; tells = moves; near = near }
+    pub breaks_moved : (p q : ProcessState S) (fault : TurnFault) (n : NodeState S) → Moves storages now Telling p [] [] q
+        → EndsAt storages IsAsked q.life.node fault n → StopsBehind storages now p [] [] fault n
+    breaks_moved p q fault n moves ends = record { between = q; tells = moves; ends = ends }
 
-    behind_then : (p q : ProcessState S) (sent more : List Carried) (said told : List Talk) (n : NodeState S)
-        → Moves storages now Telling p sent said q → StopsBehind storages now q more told n
-        → StopsBehind storages now p (sent ++ more) (said ++ told) n
-    behind_then p q sent more said told n moves h = record {
+    behind_then : (p q : ProcessState S) (sent more : List Carried) (said told : List Talk) (fault : TurnFault) (n : NodeState S)
+        → Moves storages now Telling p sent said q → StopsBehind storages now q more told fault n
+        → StopsBehind storages now p (sent ++ more) (said ++ told) fault n
+    behind_then p q sent more said told fault n moves h = record {
       between = h.between;
       tells = moves_then storages now p q h.between sent more said told moves h.tells;
-      near = h.near;
+      ends = h.ends;
     }
 
     handing_then : (p q : ProcessState S) (sent more : List Carried) (said told : List Talk) (n : NodeState S)
@@ -338,50 +304,54 @@ module _ {S : Type 0} (storages : Ghosts S) where
 
     -- ---- over both
     module _ {N D : Type 0} (carried : N → List Carried) (Carries : N → Type 0) (talk : D → List Talk) (Talks : D → Type 0) where
-      abbrev pub BothBreak : ProcessState S → N → D → N → D → NodeState S → Type 0
-      BothBreak p n d m e end = PassesBoth carried Carries talk Talks (λ sent said. StopsTelling storages now p sent said end) n d m e
+      abbrev pub BothBreak : ProcessState S → N → D → N → D → TurnFault → NodeState S → Type 0
+      BothBreak p n d m e fault end =
+          PassesBoth carried Carries talk Talks (λ sent said. StopsTelling storages now p sent said fault end) n d m e
 
-      abbrev pub BothStop : ProcessState S → N → D → N → D → NodeState S → Type 0
-      BothStop p n d m e end = PassesBoth carried Carries talk Talks (λ sent said. IsBrokenOff storages now p sent said end) n d m e
+      abbrev pub BothStop : ProcessState S → N → D → N → D → TurnFault → NodeState S → Type 0
+      BothStop p n d m e fault end =
+          PassesBoth carried Carries talk Talks (λ sent said. IsBrokenOff storages now p sent said fault end) n d m e
 
       -- some frames and replies went out
       pub both_break_out : (p : ProcessState S) (n m : N) (d e : D) (end : NodeState S)
           → PassesBoth carried Carries talk Talks (LetsOutSome p.life.held.frames p.life.held.replies p.waiting.claims) n d m e
-          → end ≡ p.life.node → BothBreak p n d m e end
+          → end ≡ p.life.node → BothBreak p n d m e turn_fault.Memory end
       both_break_out p n m d e end h same = record {
         sent = h.sent;
         said = h.said;
-        are = subst (λ (x : NodeState S). StopsTelling storages now p h.sent h.said x) (sym same) (letting_out h.sent h.said h.are);
+        are = subst (λ (x : NodeState S). StopsTelling storages now p h.sent h.said turn_fault.Memory x) (sym same)
+            (letting_out h.sent h.said h.are);
         carries = h.carries;
         talks = h.talks;
       }
 
       -- behind others
-      pub both_break_told : (p q : ProcessState S) (n m : N) (d e f : D) (has : Bool) (end : NodeState S)
+      pub both_break_told : (p q : ProcessState S) (n m : N) (d e f : D) (has : Bool) (fault : TurnFault) (end : NodeState S)
           → PassesBoth carried Carries talk Talks (λ sent said. TellsOrNot storages now p sent said q has) n d m e
-          → ClientsBreak talk Talks q e f end → BothBreak p n d m f end
-      both_break_told p q n m d e f has end h k = record {
+          → ClientsBreak talk Talks q e f fault end → BothBreak p n d m f fault end
+      both_break_told p q n m d e f has fault end h k = record {
         sent = h.sent;
         said = h.said ++ k.passed;
-        are = subst (λ (xs : List Carried). StopsTelling storages now p xs (h.said ++ k.passed) end) (append-nil h.sent)
-            (behind (h.sent ++ []) (h.said ++ k.passed) end (behind_then p q h.sent [] h.said k.passed end h.are.0 k.are));
+        are = subst (λ (xs : List Carried). StopsTelling storages now p xs (h.said ++ k.passed) fault end) (append-nil h.sent)
+            (behind (h.sent ++ []) (h.said ++ k.passed) fault end (behind_then p q h.sent [] h.said k.passed fault end h.are.0 k.are));
         carries = h.carries;
         talks = passes_then talk Talks d e f h.said k.passed h.talks k.passes;
       }
 
-      pub both_break_still : (p q : ProcessState S) (n m : N) (d e : D) (has : Bool) (end : NodeState S)
+      pub both_break_still : (p q : ProcessState S) (n m : N) (d e : D) (has : Bool) (fault : TurnFault) (end : NodeState S)
           → PassesBoth carried Carries talk Talks (λ sent said. TellsOrNot storages now p sent said q has) n d m e
-          → StopsBehind storages now q [] [] end → BothBreak p n d m e end
-      both_break_still p q n m d e has end h k =
-          let all = both_break_told p q n m d e e has end h (record { passed = []; are = k; passes = passes_none talk Talks e }) in all
+          → StopsBehind storages now q [] [] fault end → BothBreak p n d m e fault end
+      both_break_still p q n m d e has fault end h k =
+          let all = both_break_told p q n m d e e has fault end h
+          (record { passed = []; are = k; passes = passes_none talk Talks e }) in all
 
       pub both_break_sent : (p q : ProcessState S) (n m o : N) (d e : D) (has : Bool) (end : NodeState S)
           → PassesBoth carried Carries talk Talks (λ sent said. TellsOrNot storages now p sent said q has) n d m e
-          → Passes carried Carries (λ sent. StopsHandingOn storages now q sent [] end) m o → BothBreak p n d o e end
+          → Passes carried Carries (λ sent. StopsHandingOn storages now q sent [] end) m o → BothBreak p n d o e turn_fault.Memory end
       both_break_sent p q n m o d e has end h k = record {
         sent = h.sent ++ k.passed;
         said = h.said;
-        are = subst (λ (xs : List Talk). StopsTelling storages now p (h.sent ++ k.passed) xs end) (append-nil h.said)
+        are = subst (λ (xs : List Talk). StopsTelling storages now p (h.sent ++ k.passed) xs turn_fault.Memory end) (append-nil h.said)
             (handing_on (h.sent ++ k.passed) (h.said ++ []) end
             (handing_then p q h.sent k.passed h.said [] end h.are.0 k.are));
         carries = passes_then carried Carries n m o h.sent k.passed h.carries k.passes;
@@ -389,91 +359,112 @@ module _ {S : Type 0} (storages : Ghosts S) where
       }
 
       -- ---- a whole turn
-      pub both_stop_frames : (p : ProcessState S) (n m : N) (d : D) (end : NodeState S)
-          → Passes carried Carries (λ came. StopsTaking storages now p came [] end) n m → BothStop p n d m d end
-      both_stop_frames p n m d end h = record {
+      pub both_stop_frames : (p : ProcessState S) (n m : N) (d : D) (fault : TurnFault) (end : NodeState S)
+          → Passes carried Carries (λ came. StopsTaking storages now p came [] fault end) n m → BothStop p n d m d fault end
+      both_stop_frames p n m d fault end h = record {
         sent = h.passed;
         said = [];
-        are = while_taking h.passed [] end h.are;
+        are = while_taking h.passed [] fault end h.are;
         carries = h.passes;
         talks = passes_none talk Talks d;
       }
 
-      pub both_stop_lines : (AreRead : List Carried → Type 0) (p q : ProcessState S) (n m : N) (d e : D) (end : NodeState S)
-          → Passes carried Carries (λ came. Moves storages now Taking p came [] q × AreRead came) n m
-          → Passes talk Talks (λ said. StopsTaking storages now q [] said end) d e → BothStop p n d m e end
-      both_stop_lines AreRead p q n m d e end h k = record {
-        sent = h.passed;
-        said = k.passed;
-        are = subst (λ (xs : List Carried). IsBrokenOff storages now p xs k.passed end) (append-nil h.passed)
-            (while_taking (h.passed ++ []) k.passed end (stops_then p q h.passed [] [] k.passed end h.are.0 k.are));
-        carries = h.passes;
-        talks = k.passes;
-      }
-
-      both_moved : (AreRead : List Carried → Type 0) (AreHeard : List Talk → Type 0) (p q r : ProcessState S) (came : List Carried)
-          (heard : List Talk) → Moves storages now Taking p came [] q × AreRead came → Moves storages now Taking q [] heard r × AreHeard heard
-          → Moves storages now Taking p came heard r
-      both_moved AreRead AreHeard p q r came heard h k =
-          subst (λ (xs : List Carried). Moves storages now Taking p xs heard r) (append-nil came)
-          (moves_then storages now p q r came [] [] heard h.0 k.0)
-
-      -- while the time is kept
-      pub both_stop_timing : (AreRead : List Carried → Type 0) (AreHeard : List Talk → Type 0) (p q r : ProcessState S) (n m : N) (d e : D)
+      pub both_stop_lines : (AreRead : List Carried → Type 0) (p q : ProcessState S) (n m : N) (d e : D) (fault : TurnFault)
           (end : NodeState S) → Passes carried Carries (λ came. Moves storages now Taking p came [] q × AreRead came) n m
-          → Passes talk Talks (λ said. Moves storages now Taking q [] said r × AreHeard said) d e → IsNear storages 2 r.life.node end
-          → BothStop p n d m e end
-      both_stop_timing AreRead AreHeard p q r n m d e end h k near = record {
+          → Passes talk Talks (λ said. StopsTaking storages now q [] said fault end) d e → BothStop p n d m e fault end
+      both_stop_lines AreRead p q n m d e fault end h k = record {
         sent = h.passed;
         said = k.passed;
-        are = while_taking h.passed k.passed end (stops_behind p r h.passed k.passed end
-            (both_moved AreRead AreHeard p q r h.passed k.passed h.are k.are) near);
+        are = subst (λ (xs : List Carried). IsBrokenOff storages now p xs k.passed fault end) (append-nil h.passed)
+            (while_taking (h.passed ++ []) k.passed fault end (stops_then p q h.passed [] [] k.passed fault end h.are.0 k.are));
         carries = h.passes;
         talks = k.passes;
       }
 
-      -- behind that
-      pub both_stop_behind : (p q r s : ProcessState S) (life : LifeState S) (knows : TimingState) (n m : N) (d e : D)
-          (end : NodeState S) (more_came more_heard : Bool)
-          → Passes carried Carries (λ came. Moves storages now Taking p came [] q × HasRead polled came more_came) n m
-          → Passes talk Talks (λ said. Moves storages now Taking q [] said r × HasRead read said more_heard) d e
-          → KeepsTime storages now r life knows → Moves storages now Taking (record r { life = life; timing = knows }) [] [] s
-          → IsNear storages 2 s.life.node end → BothStop p n d m e end
-      both_stop_behind p q r s life knows n m d e end more_came more_heard h k keeps goes_on near = record {
-        sent = h.passed;
-        said = k.passed;
-        are = behind_the_time q r s life knows h.passed k.passed more_came more_heard end h.are.0 h.are.1 k.are.0 k.are.1 keeps goes_on near;
-        carries = h.passes;
-        talks = k.passes;
-      }
+      -- what came and what was said
+      module _ (p q r : ProcessState S) (n m : N) (d e : D) (more_came more_heard : Bool) where
+        abbrev pub CameSo : Type 0
+        CameSo = Passes carried Carries (λ came. Moves storages now Taking p came [] q × HasRead polled came more_came) n m
 
-      -- while it takes its own frames
-      pub both_stop_own : (p q r timed : ProcessState S) (life : LifeState S) (knows : TimingState) (n m : N) (d e : D)
-          (end : NodeState S) (more_came more_heard : Bool)
-          → Passes carried Carries (λ came. Moves storages now Taking p came [] q × HasRead polled came more_came) n m
-          → Passes talk Talks (λ said. Moves storages now Taking q [] said r × HasRead read said more_heard) d e
-          → KeepsTime storages now r life knows → timed ≡ record r { life = life; timing = knows }
-          → StopsTaking storages now timed [] [] end → BothStop p n d m e end
-      both_stop_own p q r timed life knows n m d e end more_came more_heard h k keeps same stops =
-          let moves : Moves storages now Taking timed [] [] stops.between =
-          quiet_moves timed stops.between stops.came_before stops.last_came stops.heard_before stops.last_heard stops.all_came
-          stops.all_heard stops.takes in
-          both_stop_behind p q r stops.between life knows n m d e end more_came more_heard h k keeps
-          (subst (λ (x : ProcessState S). Moves storages now Taking x [] [] stops.between) same moves) stops.near
-        where
-          quiet_moves : (x y : ProcessState S) (came last : List Carried) (heard end : List Talk) → [] ≡ came ++ last → [] ≡ heard ++ end
-              → Moves storages now Taking x came heard y → Moves storages now Taking x [] [] y
-          quiet_moves x y [] last [] end a b moves = moves
-          quiet_moves x y (z ∷ came) last heard end a b moves = absurd (cc)
-          quiet_moves x y [] last (z ∷ heard) end a b moves = absurd (cc)
+        abbrev pub HeardSo : Type 0
+        HeardSo = Passes talk Talks (λ said. Moves storages now Taking q [] said r × HasRead read said more_heard) d e
 
-      pub both_stop_telling : (p q : ProcessState S) (n m o : N) (d e f : D) (more : Bool) (end : NodeState S)
+        has_taken : (h : CameSo) (k : HeardSo) → HasTaken storages now p h.passed k.passed r
+        has_taken h k = record {
+          after_packets = q;
+          packets = h.are.0;
+          more_came = more_came;
+          all_packets = h.are.1;
+          lines = k.are.0;
+          more_heard = more_heard;
+          all_lines = k.are.1;
+        }
+
+        -- while the time is kept
+        pub both_stop_timing : (fault : TurnFault) (end : NodeState S) → CameSo → HeardSo → StopsKeepingTime storages now r fault end
+            → BothStop p n d m e fault end
+        both_stop_timing fault end h k stops = record {
+          sent = h.passed;
+          said = k.passed;
+          are = at_the_time r h.passed k.passed fault end (has_taken h k) stops;
+          carries = h.passes;
+          talks = k.passes;
+        }
+
+        -- behind that
+        pub both_stop_behind : (fault : TurnFault) (end : NodeState S) → CameSo → HeardSo → StopsGoingOn storages now r fault end
+            → BothStop p n d m e fault end
+        both_stop_behind fault end h k stops = record {
+          sent = h.passed;
+          said = k.passed;
+          are = behind_the_time r h.passed k.passed fault end (has_taken h k) stops;
+          carries = h.passes;
+          talks = k.passes;
+        }
+
+      pub both_stop_telling : (p q : ProcessState S) (n m o : N) (d e f : D) (more : Bool) (fault : TurnFault) (end : NodeState S)
           → PassesBoth carried Carries talk Talks (λ came said. TakesAll storages now p came said q more) n d m e
-          → BothBreak q m e o f end → BothStop p n d o f end
-      both_stop_telling p q n m o d e f more end h k = record {
+          → BothBreak q m e o f fault end → BothStop p n d o f fault end
+      both_stop_telling p q n m o d e f more fault end h k = record {
         sent = h.sent ++ k.sent;
         said = h.said ++ k.said;
-        are = while_telling q h.sent k.sent h.said k.said more end h.are k.are;
+        are = while_telling q h.sent k.sent h.said k.said more fault end h.are k.are;
         carries = passes_then carried Carries n m o h.sent k.sent h.carries k.carries;
         talks = passes_then talk Talks d e f h.said k.said h.talks k.talks;
       }
+
+    -- ---- behind the time
+    -- while it takes its own frames
+    pub stops_at_own : (p timed : ProcessState S) (life : LifeState S) (knows : TimingState) (fault : TurnFault) (end : NodeState S)
+        → KeepsTime storages now p life knows → timed ≡ record p { life = life; timing = knows }
+        → StopsTaking storages now timed [] [] fault end → StopsGoingOn storages now p fault end
+    stops_at_own p timed life knows fault end keeps same stops = record {
+      life = life;
+      knows = knows;
+      keeps_time = keeps;
+      between = stops.between;
+      goes_on = subst (λ (x : ProcessState S). Moves storages now Taking x [] [] stops.between) same
+          (quiet_moves timed stops.between stops.came_before stops.last_came stops.heard_before stops.last_heard stops.all_came
+          stops.all_heard stops.takes);
+      ends = inl stops.ends;
+    }
+      where
+        quiet_moves : (x y : ProcessState S) (came last : List Carried) (heard end : List Talk) → [] ≡ came ++ last → [] ≡ heard ++ end
+            → Moves storages now Taking x came heard y → Moves storages now Taking x [] [] y
+        quiet_moves x y [] last [] end a b moves = moves
+        quiet_moves x y (z ∷ came) last heard end a b moves = absurd (cc)
+        quiet_moves x y [] last (z ∷ heard) end a b moves = absurd (cc)
+
+    -- while it keeps its records
+    pub stops_at_records : (p timed own : ProcessState S) (life : LifeState S) (knows : TimingState) (fault : TurnFault) (end : NodeState S)
+        → KeepsTime storages now p life knows → timed ≡ record p { life = life; timing = knows }
+        → Moves storages now Taking timed [] [] own → StopsKeepingRecords storages own.life fault end
+        → StopsGoingOn storages now p fault end
+    stops_at_records p timed own life knows fault end keeps same moves stops = record {
+      life = life;
+      knows = knows;
+      keeps_time = keeps;
+      between = own;
+      goes_on = subst (λ (x : ProcessState S). Moves storages now Taking x [] [] own) same moves;
+      ends = inr stops;
+    }

@@ -1,5 +1,6 @@
 pub mod Claiming
 pub mod Clusters
+pub mod Ending
 pub mod HandingOn
 pub mod Knowing
 pub mod Learning

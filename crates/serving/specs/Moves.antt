@@ -27,6 +27,7 @@ use Rattle.clients.specs.declared.answer.ClientAnswer.TheVariants as answer
 use Rattle.clients.specs.declared.answer.Status.{Status}
 use Rattle.clients.specs.declared.line.ClientLine.TheVariants as line
 use Rattle.serving.specs.Claiming.{is_for, is_of}
+use Rattle.serving.specs.Ending.{EndsAt, IsAsked, IsGiven, IsOfOthers}
 use Rattle.serving.specs.Knowing.{IsLastNumber, IsPosition}
 use Rattle.serving.specs.Outgoing.{AreFramesOf, ArePacketsOf, IsArrival}
 use Rattle.serving.specs.Owing.{HasRoom, reply_told}
@@ -35,12 +36,14 @@ use Rattle.serving.specs.Processes.{ProcessState, is_asked_in}
 use Rattle.serving.specs.Refusals.{IsRefused}
 use Rattle.serving.specs.Requesting.{HandsOnFirst, RequestState, is_marked, unreplied, with_request}
 use Rattle.serving.specs.Resting.{HasRead, IsCheckpointed, IsFull}
-use Rattle.serving.specs.Staying.{IsNear, WasGiven}
+use Rattle.serving.specs.Staying.{WasGiven}
 use Rattle.serving.specs.Tapes.{Arrived, Carried, Heard, IsHeard, NothingCame, NothingHeard, Talk, Told, Went, polled, read}
 use Rattle.serving.specs.Timings.{IsCampaignDue, IsTickDue, TimingState, all_own_seen, campaigned, leader_in, position_seen}
 use Rattle.serving.specs.Turns.{first_position, handed_on}
 use Rattle.serving.specs.Waitings.{IsFirstRipe, IsHeldBack, WaitingState, has_any, is_asked_by, is_told_to, lines_of}
 use Rattle.serving.specs.declared.claims.Claim.{Claim}
+use Rattle.serving.specs.declared.fault.TurnFault.{TurnFault}
+use Rattle.serving.specs.declared.fault.TurnFault.TheVariants as turn_fault
 use Rattle.serving.specs.declared.waiting.Due.{Due}
 use Rattle.serving.specs.declared.waiting.Due.TheVariants as due
 use Rattle.serving.specs.declared.waiting.Question.{Question}
@@ -144,12 +147,31 @@ pub record KeepsTime {S : Type 0} (storages : Ghosts S) (now : ℕ) (p : Process
   pub ticks : IsGivenWhere storages (IsTickDue position (is_asked_in p) now knew) input.Tick (record knew { ticked = now })
       between knew life knows
 
+-- or it ends so: at a campaign that is due, or behind that at a tick that is due
+pub data StopsKeepingTime {S : Type 0} (storages : Ghosts S) (now : ℕ) (p : ProcessState S) (fault : TurnFault) (n : NodeState S)
+    : Type 0 where
+  at_campaign : (position : ℕ) → IsPosition p.life.node position
+      → IsCampaignDue position (is_asked_in p) now (position_seen position (is_asked_in p) now p.timing)
+      → EndsAt storages (IsGiven input.Timeout) p.life.node fault n → StopsKeepingTime storages now p fault n
+  at_tick : (position : ℕ) (looked knew : TimingState) (between : LifeState S) → IsPosition p.life.node position
+      → looked ≡ position_seen position (is_asked_in p) now p.timing
+      → IsGivenWhere storages (IsCampaignDue position (is_asked_in p) now looked) input.Timeout (campaigned now looked)
+      p.life looked between knew → IsTickDue position (is_asked_in p) now knew
+      → EndsAt storages (IsGiven input.Tick) between.node fault n → StopsKeepingTime storages now p fault n
+
 -- a checkpoint, and what it stands for is taken out
 pub record KeepsRecords {S : Type 0} (storages : Ghosts S) (old new : LifeState S) : Type 0 where
   pub due : ¬ IsCheckpointed old.node
   pub between : LifeState S
   pub checkpoints : WasGiven storages old input.Checkpoint between
   pub trims : WasGiven storages between input.Trim new
+
+-- or it ends so: at the checkpoint, or behind that at the trim
+pub data StopsKeepingRecords {S : Type 0} (storages : Ghosts S) (old : LifeState S) (fault : TurnFault) (n : NodeState S) : Type 0 where
+  at_checkpoint : ¬ IsCheckpointed old.node → EndsAt storages (IsGiven input.Checkpoint) old.node fault n
+      → StopsKeepingRecords storages old fault n
+  at_trim : (between : LifeState S) → ¬ IsCheckpointed old.node → WasGiven storages old input.Checkpoint between
+      → EndsAt storages (IsGiven input.Trim) between.node fault n → StopsKeepingRecords storages old fault n
 
 -- ---- what goes out
 -- each of these replies is told once to each who waits for it, and nobody waits for it any more
@@ -284,9 +306,8 @@ module _ {S : Type 0} (storages : Ghosts S) (now : ℕ) where
     pub is_more : more ≡ more_came || has_told
 
   -- ---- a turn that breaks off, at an error
-  -- while it takes: behind these moves at most one thing more came or was heard, and at most two happened to its node, as a campaign and a
-  -- tick may, or a checkpoint and a trim
-  pub record StopsTaking (p : ProcessState S) (came : List Carried) (heard : List Talk) (n : NodeState S) : Type 0 where
+  -- while it takes: behind these moves at most one thing more came or was heard, and at most one message or request came to its node
+  pub record StopsTaking (p : ProcessState S) (came : List Carried) (heard : List Talk) (fault : TurnFault) (n : NodeState S) : Type 0 where
     pub between : ProcessState S
     pub came_before : List Carried
     pub heard_before : List Talk
@@ -298,13 +319,32 @@ module _ {S : Type 0} (storages : Ghosts S) (now : ℕ) where
     pub heard_so : All IsHeard last_heard
     pub all_came : came ≡ came_before ++ last_came
     pub all_heard : heard ≡ heard_before ++ last_heard
-    pub near : IsNear storages 2 between.life.node n
+    pub ends : EndsAt storages IsOfOthers between.life.node fault n
 
-  -- while it tells: behind these moves at most one thing happened to its node
-  pub record StopsBehind (p : ProcessState S) (sent : List Carried) (said : List Talk) (n : NodeState S) : Type 0 where
+  -- it has taken what has come and heard what clients did, or as much as a turn may
+  pub record HasTaken (p : ProcessState S) (came : List Carried) (heard : List Talk) (q : ProcessState S) : Type 0 where
+    pub after_packets : ProcessState S
+    pub packets : Moves Taking p came [] after_packets
+    pub more_came : Bool
+    pub all_packets : HasRead polled came more_came
+    pub lines : Moves Taking after_packets [] heard q
+    pub more_heard : Bool
+    pub all_lines : HasRead read heard more_heard
+
+  -- behind that and the time: at a frame of its own, or at its records
+  pub record StopsGoingOn (p : ProcessState S) (fault : TurnFault) (n : NodeState S) : Type 0 where
+    pub life : LifeState S
+    pub knows : TimingState
+    pub keeps_time : KeepsTime storages now p life knows
+    pub between : ProcessState S
+    pub goes_on : Moves Taking (record p { life = life; timing = knows }) [] [] between
+    pub ends : EndsAt storages IsOfOthers between.life.node fault n ⊎ StopsKeepingRecords storages between.life fault n
+
+  -- while it tells: behind these moves its node was at most asked once more
+  pub record StopsBehind (p : ProcessState S) (sent : List Carried) (said : List Talk) (fault : TurnFault) (n : NodeState S) : Type 0 where
     pub between : ProcessState S
     pub tells : Moves Telling p sent said between
-    pub near : IsNear storages 1 between.life.node n
+    pub ends : EndsAt storages IsAsked between.life.node fault n
 
   -- or the next request was handed on to the first nodes
   pub record HandsOnSome (p : ProcessState S) (sent : List Carried) : Type 0 where
@@ -325,19 +365,22 @@ module _ {S : Type 0} (storages : Ghosts S) (now : ℕ) where
     pub all_sent : sent ≡ sent_before ++ last
     pub same : n ≡ between.life.node
 
-  -- or some went out of what is let out
-  pub data StopsTelling (p : ProcessState S) : List Carried → List Talk → NodeState S → Type 0 where
+  -- or some went out of what is let out. Where it lets out or hands on only memory can be wanting
+  pub data StopsTelling (p : ProcessState S) : List Carried → List Talk → TurnFault → NodeState S → Type 0 where
     letting_out : (sent : List Carried) (said : List Talk) → LetsOutSome p.life.held.frames p.life.held.replies p.waiting.claims sent said
-        → StopsTelling p sent said p.life.node
-    behind : (sent : List Carried) (said : List Talk) (n : NodeState S) → StopsBehind p sent said n → StopsTelling p sent said n
-    handing_on : (sent : List Carried) (said : List Talk) (n : NodeState S) → StopsHandingOn p sent said n → StopsTelling p sent said n
+        → StopsTelling p sent said turn_fault.Memory p.life.node
+    behind : (sent : List Carried) (said : List Talk) (fault : TurnFault) (n : NodeState S) → StopsBehind p sent said fault n
+        → StopsTelling p sent said fault n
+    handing_on : (sent : List Carried) (said : List Talk) (n : NodeState S) → StopsHandingOn p sent said n
+        → StopsTelling p sent said turn_fault.Memory n
 
-  pub data IsBrokenOff (p : ProcessState S) : List Carried → List Talk → NodeState S → Type 0 where
-    while_taking : (came : List Carried) (heard : List Talk) (n : NodeState S) → StopsTaking p came heard n → IsBrokenOff p came heard n
-    -- it has taken all, and kept the time
-    behind_the_time : (q r s : ProcessState S) (life : LifeState S) (knows : TimingState) (came : List Carried) (heard : List Talk)
-        (more_came more_heard : Bool) (n : NodeState S) → Moves Taking p came [] q → HasRead polled came more_came
-        → Moves Taking q [] heard r → HasRead read heard more_heard → KeepsTime storages now r life knows
-        → Moves Taking (record r { life = life; timing = knows }) [] [] s → IsNear storages 2 s.life.node n → IsBrokenOff p came heard n
-    while_telling : (q : ProcessState S) (came sent : List Carried) (heard said : List Talk) (more : Bool) (n : NodeState S)
-        → TakesAll p came heard q more → StopsTelling q sent said n → IsBrokenOff p (came ++ sent) (heard ++ said) n
+  pub data IsBrokenOff (p : ProcessState S) : List Carried → List Talk → TurnFault → NodeState S → Type 0 where
+    while_taking : (came : List Carried) (heard : List Talk) (fault : TurnFault) (n : NodeState S) → StopsTaking p came heard fault n
+        → IsBrokenOff p came heard fault n
+    at_the_time : (q : ProcessState S) (came : List Carried) (heard : List Talk) (fault : TurnFault) (n : NodeState S)
+        → HasTaken p came heard q → StopsKeepingTime storages now q fault n → IsBrokenOff p came heard fault n
+    behind_the_time : (q : ProcessState S) (came : List Carried) (heard : List Talk) (fault : TurnFault) (n : NodeState S)
+        → HasTaken p came heard q → StopsGoingOn q fault n → IsBrokenOff p came heard fault n
+    while_telling : (q : ProcessState S) (came sent : List Carried) (heard said : List Talk) (more : Bool) (fault : TurnFault)
+        (n : NodeState S) → TakesAll p came heard q more → StopsTelling q sent said fault n
+        → IsBrokenOff p (came ++ sent) (heard ++ said) fault n

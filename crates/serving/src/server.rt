@@ -7,14 +7,15 @@ ghost use Rattle.world_model.specs.Lives.{down_over};
 ghost use Rattle.life.specs.Telling.{nothing};
 ghost use Rattle.serving.specs.Knowing.{IsPosition};
 ghost use Rattle.serving.specs.Learning.{Learns};
-ghost use Rattle.serving.specs.Moves.{IsGivenWhere, IsTurn, KeepsTime, IsBrokenOff, Moves, StopsTelling, Taking, TakesAll, TellsOrNot};
+ghost use Rattle.serving.specs.Ending.{EndsAt, HasEnded, IsGiven};
+ghost use Rattle.serving.specs.Moves.{IsGivenWhere, IsTurn, KeepsTime, IsBrokenOff, Moves, StopsKeepingRecords, StopsKeepingTime, StopsTelling, Taking, TakesAll, TellsOrNot};
 ghost use Rattle.serving.specs.Processes.{HasLooked};
 ghost use Rattle.serving.specs.Outgoing.{IsArrival, IsRightlySent};
 ghost use Rattle.serving.specs.Owing.{BreaksOff, BreaksOffOver, KeepsEachOver};
 ghost use Rattle.serving.specs.Requesting.{NoneIsDue};
 ghost use Rattle.serving.specs.Resting.{IsCheckpointed, Rests};
 ghost use Rattle.serving.specs.Serving.{IsServing, Passes, PassesBoth, PassesOnly, Serves, ServesOver, begun, has_requests};
-ghost use Rattle.serving.specs.Staying.{HasEnded, IsNear, StaysUp, WasGiven};
+ghost use Rattle.serving.specs.Staying.{StaysUp, WasGiven};
 ghost use Rattle.serving.specs.Timings.{IsCampaignDue, IsTickDue, IsTimeLeft, campaigned, first_timing, leader_in};
 ghost use Rattle.serving.specs.Turns.{IsOfProcess};
 
@@ -141,8 +142,8 @@ impl<S: Stable + Drop> Server<S> {
         ensures own { OnOk result ((life_of self.new.life).own ≡ []) }
         ensures looked { OnOk result (HasLooked (process_of self.new)) }
         ensures breaks { OnErr result (BreaksOffOver D.tape D.Tells self.old.waiting desk.old desk.new) }
-        ensures stops { OnErr result (PassesBoth N.tape N.Tells D.tape D.Tells (λ sent said.
-            IsBrokenOff S.Stable now (process_of self.old) sent said (life_of self.new.life).node)
+        ensures stops { IfErr result (λ fault. PassesBoth N.tape N.Tells D.tape D.Tells (λ sent said.
+            IsBrokenOff S.Stable now (process_of self.old) sent said fault (life_of self.new.life).node)
             network.old desk.old network.new desk.new) }
         ensures ends { IfErr result (HasEnded (life_of self.new.life).node) }
     {
@@ -172,8 +173,8 @@ impl<S: Stable + Drop> Server<S> {
             network.old desk.old network.new desk.new) }
         ensures own { OnOk result ((life_of self.new.life).own ≡ []) }
         ensures breaks { OnErr result (Passes D.tape D.Tells (λ said. BreaksOff said self.old.waiting) desk.old desk.new) }
-        ensures stops { OnErr result (PassesBoth N.tape N.Tells D.tape D.Tells (λ sent said.
-            IsBrokenOff S.Stable now (process_of self.old) sent said (life_of self.new.life).node)
+        ensures stops { IfErr result (λ fault. PassesBoth N.tape N.Tells D.tape D.Tells (λ sent said.
+            IsBrokenOff S.Stable now (process_of self.old) sent said fault (life_of self.new.life).node)
             network.old desk.old network.new desk.new) }
         ensures ends { IfErr result (HasEnded (life_of self.new.life).node) }
     {
@@ -206,8 +207,8 @@ impl<S: Stable + Drop> Server<S> {
         ensures held { OnOk result ((life_of self.new.life).held ≡ nothing) }
         ensures own { OnOk result ((life_of self.new.life).own ≡ (life_of self.old.life).own) }
         ensures breaks { OnErr result (Passes D.tape D.Tells (λ said. BreaksOff said self.old.waiting) desk.old desk.new) }
-        ensures stops { OnErr result (PassesBoth N.tape N.Tells D.tape D.Tells (λ sent said.
-            StopsTelling S.Stable now (process_of self.old) sent said (life_of self.new.life).node)
+        ensures stops { IfErr result (λ fault. PassesBoth N.tape N.Tells D.tape D.Tells (λ sent said.
+            StopsTelling S.Stable now (process_of self.old) sent said fault (life_of self.new.life).node)
             network.old desk.old network.new desk.new) }
         ensures ends { IfErr result (HasEnded (life_of self.new.life).node) }
     {
@@ -229,7 +230,7 @@ impl<S: Stable + Drop> Server<S> {
     // What is due by the clock.
     fn keep_time(&mut self, alloc: Global, now: u64) -> Result<(), TurnFault>
         ensures serves { Serves S.Stable (server_of self.old) [] [] (server_of self.new) }
-        ensures near { OnErr result (IsNear S.Stable 2 (life_of self.old.life).node (life_of self.new.life).node) }
+        ensures stops { IfErr result (λ fault. StopsKeepingTime S.Stable now (process_of self.old) fault (life_of self.new.life).node) }
         ensures ends { IfErr result (HasEnded (life_of self.new.life).node) }
         ensures keeps { OnOk result (KeepsTime S.Stable now (process_of self.old) (life_of self.new.life) self.new.timing) }
         ensures others { process_of self.new ≡ record (process_of self.old) { life = life_of self.new.life; timing = self.new.timing } }
@@ -250,7 +251,8 @@ impl<S: Stable + Drop> Server<S> {
         now: u64,
     ) -> Result<(), TurnFault>
         ensures serves { Serves S.Stable (server_of self.old) [] [] (server_of self.new) }
-        ensures near { OnErr result (IsNear S.Stable 1 (life_of self.old.life).node (life_of self.new.life).node) }
+        ensures stops { IfErr result (λ fault. IsCampaignDue position is_asked now self.old.timing
+            × EndsAt S.Stable (IsGiven input.Timeout) (life_of self.old.life).node fault (life_of self.new.life).node) }
         ensures ends { IfErr result (HasEnded (life_of self.new.life).node) }
         ensures campaigns { OnOk result (IsGivenWhere S.Stable (IsCampaignDue position is_asked now self.old.timing) input.Timeout
             (campaigned now self.old.timing) (life_of self.old.life) self.old.timing (life_of self.new.life) self.new.timing) }
@@ -272,7 +274,8 @@ impl<S: Stable + Drop> Server<S> {
         now: u64,
     ) -> Result<(), TurnFault>
         ensures serves { Serves S.Stable (server_of self.old) [] [] (server_of self.new) }
-        ensures near { OnErr result (IsNear S.Stable 1 (life_of self.old.life).node (life_of self.new.life).node) }
+        ensures stops { IfErr result (λ fault. IsTickDue position is_asked now self.old.timing
+            × EndsAt S.Stable (IsGiven input.Tick) (life_of self.old.life).node fault (life_of self.new.life).node) }
         ensures ends { IfErr result (HasEnded (life_of self.new.life).node) }
         ensures ticks { OnOk result (IsGivenWhere S.Stable (IsTickDue position is_asked now self.old.timing) input.Tick
             (record self.old.timing { ticked = now }) (life_of self.old.life) self.old.timing (life_of self.new.life) self.new.timing) }
@@ -286,7 +289,7 @@ impl<S: Stable + Drop> Server<S> {
 
     // A checkpoint where one is due, and what it stands for is taken out.
     fn keep_records(&mut self, alloc: Global) -> Result<(), TurnFault>
-        ensures near { OnErr result (IsNear S.Stable 2 (life_of self.old.life).node (life_of self.new.life).node) }
+        ensures stops { IfErr result (λ fault. StopsKeepingRecords S.Stable (life_of self.old.life) fault (life_of self.new.life).node) }
         ensures ends { IfErr result (HasEnded (life_of self.new.life).node) }
         ensures checkpoints { OnOk result (IsCheckpointed (life_of self.new.life).node) }
         ensures serves { Serves S.Stable (server_of self.old) [] [] (server_of self.new) }
@@ -304,7 +307,8 @@ impl<S: Stable + Drop> Server<S> {
     // The node takes what the process gives it by itself.
     fn give(&mut self, alloc: Global, input: Input) -> Result<(), TurnFault>
         requires { IsOfProcess input }
-        ensures near { OnErr result (IsNear S.Stable 1 (life_of self.old.life).node (life_of self.new.life).node) }
+        ensures stops { IfErr result (λ fault.
+            EndsAt S.Stable (IsGiven input) (life_of self.old.life).node fault (life_of self.new.life).node) }
         ensures ends { IfErr result (HasEnded (life_of self.new.life).node) }
         ensures gives { OnOk result (WasGiven S.Stable (life_of self.old.life) input (life_of self.new.life)) }
         ensures serves { Serves S.Stable (server_of self.old) [] [] (server_of self.new) }

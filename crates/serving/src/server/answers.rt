@@ -4,6 +4,7 @@ ghost use Rattle.wire.specs.declared.frames.envelope.Envelope.{Envelope};
 ghost use Rattle.std.specs.Prelude.{◌≡◌, ◌≤◌, ◌<◌, ℕ, List, ◌+◌, ◌-◌, ◌∷◌, ◌++◌, [], IfErr, IfOk, MatchBool, OnErr, OnOk, length, take, true, false};
 ghost use Rattle.life.specs.Telling.{nothing};
 ghost use Rattle.clients.specs.AnswerLines.{text_line};
+ghost use Rattle.serving.specs.Ending.{EndsAt, HasEnded, IsAsked};
 ghost use Rattle.serving.specs.Moves.{AreRepliesTold, IsAnswered, LetsOutSome, Moves, StopsBehind, Telling, TellsOrNot};
 ghost use Rattle.serving.specs.Outgoing.{AreFramesOf, IsReplyIn, IsTextTo, KeepsLess};
 ghost use Rattle.serving.specs.Knowing.{IsPosition};
@@ -11,7 +12,6 @@ ghost use Rattle.serving.specs.Owing.{BreaksOff, reply_told};
 ghost use Rattle.serving.specs.Requesting.{unreplied};
 ghost use Rattle.serving.specs.Resting.{IsFull, KeepsRequests, NoneIsRipe};
 ghost use Rattle.serving.specs.Serving.{Passes, PassesOnly, Serves, ServesClients, asking};
-ghost use Rattle.serving.specs.Staying.{HasEnded, IsNear};
 ghost use Rattle.serving.specs.Tapes.{Carried, HasPassed, Told};
 ghost use Rattle.serving.specs.declared.fault.TurnFault.TheVariants as turn_fault;
 
@@ -73,8 +73,8 @@ impl<S: Stable + Drop> Server<S> {
         ensures ripe { OnOk result (NoneIsRipe (life_of self.new.life).node self.new.waiting.questions) }
         ensures moves { (now : ℕ) → (life_of self.old.life).held ≡ nothing → IfOk result (λ has_told. Passes D.tape D.Tells (λ said.
             TellsOrNot S.Stable now (process_of self.old) [] said (process_of self.new) has_told) desk.old desk.new) }
-        ensures stops { (now : ℕ) → (life_of self.old.life).held ≡ nothing → OnErr result (Passes D.tape D.Tells (λ said.
-            StopsBehind S.Stable now (process_of self.old) [] said (life_of self.new.life).node) desk.old desk.new) }
+        ensures stops { (now : ℕ) → (life_of self.old.life).held ≡ nothing → IfErr result (λ fault. Passes D.tape D.Tells (λ said.
+            StopsBehind S.Stable now (process_of self.old) [] said fault (life_of self.new.life).node) desk.old desk.new) }
         ensures ends { IfErr result (HasEnded (life_of self.new.life).node) }
         ensures breaks { (life_of self.old.life).held ≡ nothing → OnErr result (Passes D.tape D.Tells (λ said.
             BreaksOff said self.old.waiting) desk.old desk.new) }
@@ -100,7 +100,7 @@ impl<S: Stable + Drop> Server<S> {
             (NoneIsRipe (life_of self.new.life).node self.new.waiting.questions)) }
         ensures moves { (now : ℕ) → (life_of self.old.life).held ≡ nothing → IfOk result (λ has_told. Passes D.tape D.Tells (λ said.
             TellsOrNot S.Stable now (process_of self.old) [] said (process_of self.new) has_told) desk.old desk.new) }
-        ensures near { OnErr result (IsNear S.Stable 1 (life_of self.old.life).node (life_of self.new.life).node) }
+        ensures stops { IfErr result (λ fault. EndsAt S.Stable IsAsked (life_of self.old.life).node fault (life_of self.new.life).node) }
         ensures ends { IfErr result (HasEnded (life_of self.new.life).node) }
         ensures breaks { OnErr result (HasPassed D.tape D.Tells desk.old [] desk.new) }
         ensures held { (life_of self.old.life).held ≡ nothing → OnOk result ((life_of self.new.life).held ≡ nothing) }
@@ -124,7 +124,7 @@ impl<S: Stable + Drop> Server<S> {
         ensures moves { (now : ℕ) → (life_of self.old.life).held ≡ nothing
             → OnOk result (Moves S.Stable now Telling (process_of self.old) [] [] (process_of self.new)) }
         ensures stops { (now : ℕ) → (life_of self.old.life).held ≡ nothing
-            → OnErr result (StopsBehind S.Stable now (process_of self.old) [] [] (life_of self.new.life).node) }
+            → OnErr result (StopsBehind S.Stable now (process_of self.old) [] [] turn_fault.Memory (life_of self.new.life).node) }
         ensures memory { IfErr result (λ fault. fault ≡ turn_fault.Memory) }
     {
         if self.position() < SLOTS {
@@ -180,8 +180,8 @@ impl<S: Stable + Drop> Server<S> {
             → NoneIsRipe (life_of self.old.life).node self.old.waiting.questions → IfOk result (λ has_told. Passes D.tape D.Tells (λ said.
             TellsOrNot S.Stable now (process_of self.old) [] said (process_of self.new) has_told) desk.old desk.new) }
         ensures stops { (now : ℕ) → (life_of self.old.life).held ≡ nothing
-            → NoneIsRipe (life_of self.old.life).node self.old.waiting.questions → OnErr result (Passes D.tape D.Tells (λ said.
-            StopsBehind S.Stable now (process_of self.old) [] said (life_of self.new.life).node) desk.old desk.new) }
+            → NoneIsRipe (life_of self.old.life).node self.old.waiting.questions → IfErr result (λ fault. Passes D.tape D.Tells (λ said.
+            StopsBehind S.Stable now (process_of self.old) [] said fault (life_of self.new.life).node) desk.old desk.new) }
         ensures ends { IfErr result (HasEnded (life_of self.new.life).node) }
         ensures breaks { (life_of self.old.life).held ≡ nothing → NoneIsRipe (life_of self.old.life).node self.old.waiting.questions
             → OnErr result (Passes D.tape D.Tells (λ said. BreaksOff said self.old.waiting) desk.old desk.new) }
@@ -207,7 +207,7 @@ impl<S: Stable + Drop> Server<S> {
         ensures moves { (now : ℕ) → (life_of self.old.life).held ≡ nothing
             → NoneIsRipe (life_of self.old.life).node self.old.waiting.questions → IfOk result (λ has_told. Passes D.tape D.Tells (λ said.
             TellsOrNot S.Stable now (process_of self.old) [] said (process_of self.new) has_told) desk.old desk.new) }
-        ensures near { OnErr result (IsNear S.Stable 1 (life_of self.old.life).node (life_of self.new.life).node) }
+        ensures stops { IfErr result (λ fault. EndsAt S.Stable IsAsked (life_of self.old.life).node fault (life_of self.new.life).node) }
         ensures ends { IfErr result (HasEnded (life_of self.new.life).node) }
         ensures breaks { OnErr result (HasPassed D.tape D.Tells desk.old [] desk.new) }
         ensures held { (life_of self.old.life).held ≡ nothing → OnOk result ((life_of self.new.life).held ≡ nothing) }
@@ -251,7 +251,7 @@ impl<S: Stable + Drop> Server<S> {
         ensures holds_back { (position : ℕ) → IsPosition (life_of self.old.life).node position → position < question.from
             → (desk.new ≡ desk.old) × (life_of self.new.life ≡ life_of self.old.life) × IfOk result (λ has_told. (has_told ≡ false)
             × (self.new.waiting ≡ record self.old.waiting { questions = self.old.waiting.questions ++ question ∷ [] })) }
-        ensures near { OnErr result (IsNear S.Stable 1 (life_of self.old.life).node (life_of self.new.life).node) }
+        ensures stops { IfErr result (λ fault. EndsAt S.Stable IsAsked (life_of self.old.life).node fault (life_of self.new.life).node) }
         ensures ends { IfErr result (HasEnded (life_of self.new.life).node) }
         ensures breaks { OnErr result (HasPassed D.tape D.Tells desk.old [] desk.new) }
         ensures others { process_of self.new ≡ record (process_of self.old) {

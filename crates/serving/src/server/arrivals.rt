@@ -6,12 +6,12 @@ ghost use Rattle.node_model.specs.declared.input.Input.TheVariants as input;
 ghost use Rattle.clients.specs.ClientLines.{IsClientLine};
 ghost use Rattle.clients.specs.declared.line.ClientLine.TheVariants as client_line;
 ghost use Rattle.serving.specs.Knowing.{IsLastNumber};
+ghost use Rattle.serving.specs.Ending.{EndsAt, HasEnded, IsOfOthers};
 ghost use Rattle.serving.specs.Moves.{Moves, StopsTaking, Taking, TakesOwn};
 ghost use Rattle.serving.specs.Outgoing.{IsArrival};
 ghost use Rattle.serving.specs.Packets.{IsMessageTaken, IsTakenOnce, IsTakenOver, SubmitsNothing};
 ghost use Rattle.serving.specs.Resting.{HasRead, IsReading};
 ghost use Rattle.serving.specs.Serving.{Passes, PassesOnly, Serves, ServesNodes};
-ghost use Rattle.serving.specs.Staying.{HasEnded, IsNear};
 ghost use Rattle.serving.specs.Tapes.{Arrived, polled};
 ghost use Rattle.serving.specs.Turns.{handed_on};
 ghost use Rattle.serving.specs.declared.fault.TurnFault.TheVariants as turn_fault;
@@ -45,8 +45,8 @@ impl<S: Stable + Drop> Server<S> {
             Moves S.Stable now Taking (process_of self.old) came [] (process_of self.new) × HasRead polled came more)
             network.old network.new) }
         ensures own { (life_of self.old.life).own ≡ [] → OnOk result ((life_of self.new.life).own ≡ []) }
-        ensures stops { OnErr result (Passes N.tape N.Tells (λ came.
-            StopsTaking S.Stable now (process_of self.old) came [] (life_of self.new.life).node) network.old network.new) }
+        ensures stops { IfErr result (λ fault. Passes N.tape N.Tells (λ came.
+            StopsTaking S.Stable now (process_of self.old) came [] fault (life_of self.new.life).node) network.old network.new) }
         ensures ends { IfErr result (HasEnded (life_of self.new.life).node) }
     {
         'frames: for _ in 0..MOST_IN_A_TURN {
@@ -70,8 +70,8 @@ impl<S: Stable + Drop> Server<S> {
             Moves S.Stable now Taking (process_of self.old) came [] (process_of self.new) × IsReading polled came has_come)
             network.old network.new) }
         ensures own { (life_of self.old.life).own ≡ [] → OnOk result ((life_of self.new.life).own ≡ []) }
-        ensures stops { OnErr result (Passes N.tape N.Tells (λ came.
-            StopsTaking S.Stable now (process_of self.old) came [] (life_of self.new.life).node) network.old network.new) }
+        ensures stops { IfErr result (λ fault. Passes N.tape N.Tells (λ came.
+            StopsTaking S.Stable now (process_of self.old) came [] fault (life_of self.new.life).node) network.old network.new) }
         ensures ends { IfErr result (HasEnded (life_of self.new.life).node) }
     {
         let came = network.poll(alloc)?;
@@ -87,7 +87,7 @@ impl<S: Stable + Drop> Server<S> {
     fn take_frame(&mut self, alloc: Global, bytes: &[u8], now: u64) -> Result<(), TurnFault>
         ensures serves { Serves S.Stable (server_of self.old) (Arrived bytes.now ∷ []) [] (server_of self.new) }
         ensures moves { OnOk result (Moves S.Stable now Taking (process_of self.old) (Arrived bytes.now ∷ []) [] (process_of self.new)) }
-        ensures near { OnErr result (IsNear S.Stable 1 (life_of self.old.life).node (life_of self.new.life).node) }
+        ensures stops { IfErr result (λ fault. EndsAt S.Stable IsOfOthers (life_of self.old.life).node fault (life_of self.new.life).node) }
         ensures ends { IfErr result (HasEnded (life_of self.new.life).node) }
     {
         if let Some(line) = bytes.strip_prefix(&[HANDED_ON]) {
@@ -99,7 +99,7 @@ impl<S: Stable + Drop> Server<S> {
     // A frame of another node. Anything else is passed over.
     fn take_message(&mut self, alloc: Global, bytes: &[u8], now: u64) -> Result<(), TurnFault>
         ensures serves { Serves S.Stable (server_of self.old) (Arrived bytes.now ∷ []) [] (server_of self.new) }
-        ensures near { OnErr result (IsNear S.Stable 1 (life_of self.old.life).node (life_of self.new.life).node) }
+        ensures stops { IfErr result (λ fault. EndsAt S.Stable IsOfOthers (life_of self.old.life).node fault (life_of self.new.life).node) }
         ensures ends { IfErr result (HasEnded (life_of self.new.life).node) }
         ensures taken { OnOk result (IsMessageTaken S.Stable now (frame_in self.old.nodes bytes.now)
             (life_of self.old.life) self.old.timing (life_of self.new.life) self.new.timing) }
@@ -119,7 +119,7 @@ impl<S: Stable + Drop> Server<S> {
     // A line that another process hands on: a request that its client waits for. Anything else is passed over.
     fn take_handed_on(&mut self, alloc: Global, line: &[u8]) -> Result<(), TurnFault>
         ensures serves { Serves S.Stable (server_of self.old) (Arrived (handed_on line.now) ∷ []) [] (server_of self.new) }
-        ensures near { OnErr result (IsNear S.Stable 1 (life_of self.old.life).node (life_of self.new.life).node) }
+        ensures stops { IfErr result (λ fault. EndsAt S.Stable IsOfOthers (life_of self.old.life).node fault (life_of self.new.life).node) }
         ensures ends { IfErr result (HasEnded (life_of self.new.life).node) }
         ensures taken { OnOk result (IsTakenOver S.Stable line.now (life_of self.old.life) (life_of self.new.life)) }
         ensures others { process_of self.new ≡ record (process_of self.old) { life = life_of self.new.life } }
@@ -140,7 +140,7 @@ impl<S: Stable + Drop> Server<S> {
     ) -> Result<(), TurnFault>
         requires { IsClientLine line.now (client_line.Submit submission) }
         ensures serves { Serves S.Stable (server_of self.old) (Arrived (handed_on line.now) ∷ []) [] (server_of self.new) }
-        ensures near { OnErr result (IsNear S.Stable 1 (life_of self.old.life).node (life_of self.new.life).node) }
+        ensures stops { IfErr result (λ fault. EndsAt S.Stable IsOfOthers (life_of self.old.life).node fault (life_of self.new.life).node) }
         ensures ends { IfErr result (HasEnded (life_of self.new.life).node) }
         ensures taken { OnOk result (IsTakenOnce S.Stable submission (life_of self.old.life) (life_of self.new.life)) }
         ensures others { process_of self.new ≡ record (process_of self.old) { life = life_of self.new.life } }
@@ -171,7 +171,8 @@ impl<S: Stable + Drop> Server<S> {
     pub(super) fn take_own(&mut self, alloc: Global) -> Result<(), TurnFault>
         ensures serves { Serves S.Stable (server_of self.old) [] [] (server_of self.new) }
         ensures moves { (now : ℕ) → OnOk result (Moves S.Stable now Taking (process_of self.old) [] [] (process_of self.new)) }
-        ensures stops { (now : ℕ) → OnErr result (StopsTaking S.Stable now (process_of self.old) [] [] (life_of self.new.life).node) }
+        ensures stops { (now : ℕ) → IfErr result (λ fault.
+            StopsTaking S.Stable now (process_of self.old) [] [] fault (life_of self.new.life).node) }
         ensures ends { IfErr result (HasEnded (life_of self.new.life).node) }
         ensures own { OnOk result ((life_of self.new.life).own ≡ []) }
     {
@@ -188,7 +189,7 @@ impl<S: Stable + Drop> Server<S> {
     fn take_back(&mut self, alloc: Global) -> Result<bool, TurnFault>
         ensures serves { Serves S.Stable (server_of self.old) [] [] (server_of self.new) }
         ensures others { process_of self.new ≡ record (process_of self.old) { life = life_of self.new.life } }
-        ensures near { OnErr result (IsNear S.Stable 1 (life_of self.old.life).node (life_of self.new.life).node) }
+        ensures stops { IfErr result (λ fault. EndsAt S.Stable IsOfOthers (life_of self.old.life).node fault (life_of self.new.life).node) }
         ensures ends { IfErr result (HasEnded (life_of self.new.life).node) }
         ensures takes { IfOk result (λ taken. MatchBool taken (TakesOwn S.Stable (life_of self.old.life) (life_of self.new.life))
             (((life_of self.old.life).own ≡ []) × (life_of self.new.life ≡ life_of self.old.life))) }

@@ -45,7 +45,7 @@ impl<S: Stable + Drop> Server<S> {
             network.old desk.old network.new desk.new) }
         ensures breaks { OnErr result (Passes D.tape D.Tells (λ said. BreaksOff said self.old.waiting) desk.old desk.new) }
         ensures stops { OnErr result (PassesBoth N.tape N.Tells D.tape D.Tells (λ sent said.
-            StopsTelling S.Stable now (process_of self.old) sent said (life_of self.new.life).node)
+            StopsTelling S.Stable now (process_of self.old) sent said turn_fault.Memory (life_of self.new.life).node)
             network.old desk.old network.new desk.new) }
         ensures memory { IfErr result (λ fault. fault ≡ turn_fault.Memory) }
         ensures held { OnOk result ((life_of self.new.life).held ≡ nothing) }

@@ -5,11 +5,11 @@ ghost use Rattle.std.specs.Global.{Vec};
 ghost use Rattle.clients.specs.AnswerLines.{answer_line};
 ghost use Rattle.clients.specs.ClientLines.{IsClientFault, IsClientLine};
 ghost use Rattle.clients.specs.declared.line.ClientLine.TheVariants as client_line;
+ghost use Rattle.serving.specs.Ending.{EndsAt, HasEnded, IsOfOthers};
 ghost use Rattle.serving.specs.Moves.{IsLineTaken, IsStatus, Moves, StopsTaking, Taking, owing};
 ghost use Rattle.serving.specs.Owing.{BreaksOff, HasRoom};
 ghost use Rattle.serving.specs.Resting.{HasRead, IsReading};
 ghost use Rattle.serving.specs.Serving.{Passes, Serves, ServesClients};
-ghost use Rattle.serving.specs.Staying.{HasEnded, IsNear};
 ghost use Rattle.serving.specs.Tapes.{Heard, heard, read};
 ghost use Rattle.serving.specs.Turns.{IsPlain, first_position};
 ghost use Rattle.serving.specs.declared.fault.TurnFault.TheVariants as turn_fault;
@@ -41,8 +41,8 @@ impl<S: Stable + Drop> Server<S> {
         ensures takes { (now : ℕ) → IfOk result (λ more. Passes D.tape D.Tells (λ said.
             Moves S.Stable now Taking (process_of self.old) [] said (process_of self.new) × HasRead read said more) desk.old desk.new) }
         ensures breaks { OnErr result (Passes D.tape D.Tells (λ said. BreaksOff said self.old.waiting) desk.old desk.new) }
-        ensures stops { (now : ℕ) → OnErr result (Passes D.tape D.Tells (λ said.
-            StopsTaking S.Stable now (process_of self.old) [] said (life_of self.new.life).node) desk.old desk.new) }
+        ensures stops { (now : ℕ) → IfErr result (λ fault. Passes D.tape D.Tells (λ said.
+            StopsTaking S.Stable now (process_of self.old) [] said fault (life_of self.new.life).node) desk.old desk.new) }
         ensures ends { IfErr result (HasEnded (life_of self.new.life).node) }
     {
         'lines: for _ in 0..MOST_IN_A_TURN {
@@ -60,8 +60,8 @@ impl<S: Stable + Drop> Server<S> {
             Moves S.Stable now Taking (process_of self.old) [] said (process_of self.new) × IsReading read said has_come)
             desk.old desk.new) }
         ensures breaks { OnErr result (Passes D.tape D.Tells (λ said. BreaksOff said self.old.waiting) desk.old desk.new) }
-        ensures stops { (now : ℕ) → OnErr result (Passes D.tape D.Tells (λ said.
-            StopsTaking S.Stable now (process_of self.old) [] said (life_of self.new.life).node) desk.old desk.new) }
+        ensures stops { (now : ℕ) → IfErr result (λ fault. Passes D.tape D.Tells (λ said.
+            StopsTaking S.Stable now (process_of self.old) [] said fault (life_of self.new.life).node) desk.old desk.new) }
         ensures ends { IfErr result (HasEnded (life_of self.new.life).node) }
     {
         let came = desk.next(alloc, &self.waiting)?;
@@ -77,7 +77,7 @@ impl<S: Stable + Drop> Server<S> {
         ensures serves { Serves S.Stable (server_of self.old) [] (heard what ∷ []) (server_of self.new) }
         ensures moves { (now : ℕ) → HasRoom self.old.waiting (heard what)
             → OnOk result (Moves S.Stable now Taking (process_of self.old) [] (heard what ∷ []) (process_of self.new)) }
-        ensures near { OnErr result (IsNear S.Stable 1 (life_of self.old.life).node (life_of self.new.life).node) }
+        ensures stops { IfErr result (λ fault. EndsAt S.Stable IsOfOthers (life_of self.old.life).node fault (life_of self.new.life).node) }
         ensures ends { IfErr result (HasEnded (life_of self.new.life).node) }
     {
         match what {
@@ -92,7 +92,7 @@ impl<S: Stable + Drop> Server<S> {
     // The connection wrote this line.
     fn take_line(&mut self, alloc: Global, connection: u64, text: &[u8]) -> Result<(), TurnFault>
         ensures serves { Serves S.Stable (server_of self.old) [] (Heard connection text.now ∷ []) (server_of self.new) }
-        ensures near { OnErr result (IsNear S.Stable 1 (life_of self.old.life).node (life_of self.new.life).node) }
+        ensures stops { IfErr result (λ fault. EndsAt S.Stable IsOfOthers (life_of self.old.life).node fault (life_of self.new.life).node) }
         ensures ends { IfErr result (HasEnded (life_of self.new.life).node) }
         ensures taken { OnOk result (IsLineTaken S.Stable (process_of self.old) connection text.now (process_of self.new)) }
     {
@@ -112,7 +112,7 @@ impl<S: Stable + Drop> Server<S> {
     ) -> Result<(), TurnFault>
         requires { IsClientLine text.now asked }
         ensures serves { Serves S.Stable (server_of self.old) [] (Heard connection text.now ∷ []) (server_of self.new) }
-        ensures near { OnErr result (IsNear S.Stable 1 (life_of self.old.life).node (life_of self.new.life).node) }
+        ensures stops { IfErr result (λ fault. EndsAt S.Stable IsOfOthers (life_of self.old.life).node fault (life_of self.new.life).node) }
         ensures ends { IfErr result (HasEnded (life_of self.new.life).node) }
         ensures taken { OnOk result (IsLineTaken S.Stable (process_of self.old) connection text.now (process_of self.new)) }
     {
@@ -141,7 +141,7 @@ impl<S: Stable + Drop> Server<S> {
     ) -> Result<(), TurnFault>
         requires { IsClientFault text.now cause }
         ensures serves { Serves S.Stable (server_of self.old) [] (Heard connection text.now ∷ []) (server_of self.new) }
-        ensures near { OnErr result (IsNear S.Stable 1 (life_of self.old.life).node (life_of self.new.life).node) }
+        ensures stops { IfErr result (λ fault. EndsAt S.Stable IsOfOthers (life_of self.old.life).node fault (life_of self.new.life).node) }
         ensures ends { IfErr result (HasEnded (life_of self.new.life).node) }
         ensures taken { OnOk result (IsLineTaken S.Stable (process_of self.old) connection text.now (process_of self.new)) }
     {
@@ -185,7 +185,7 @@ impl<S: Stable + Drop> Server<S> {
     ) -> Result<(), TurnFault>
         requires { IsClientLine text.now (client_line.Submit submission) }
         ensures serves { Serves S.Stable (server_of self.old) [] (Heard connection text.now ∷ []) (server_of self.new) }
-        ensures near { OnErr result (IsNear S.Stable 1 (life_of self.old.life).node (life_of self.new.life).node) }
+        ensures stops { IfErr result (λ fault. EndsAt S.Stable IsOfOthers (life_of self.old.life).node fault (life_of self.new.life).node) }
         ensures ends { IfErr result (HasEnded (life_of self.new.life).node) }
         ensures taken { OnOk result (IsLineTaken S.Stable (process_of self.old) connection text.now (process_of self.new)) }
     {
@@ -226,7 +226,7 @@ impl<S: Stable + Drop> Server<S> {
     ) -> Result<(), TurnFault>
         requires { IsClientLine text.now (client_line.Query query position) }
         ensures serves { Serves S.Stable (server_of self.old) [] (Heard connection text.now ∷ []) (server_of self.new) }
-        ensures near { OnErr result (IsNear S.Stable 1 (life_of self.old.life).node (life_of self.new.life).node) }
+        ensures stops { IfErr result (λ fault. EndsAt S.Stable IsOfOthers (life_of self.old.life).node fault (life_of self.new.life).node) }
         ensures ends { IfErr result (HasEnded (life_of self.new.life).node) }
         ensures taken { OnOk result (IsLineTaken S.Stable (process_of self.old) connection text.now (process_of self.new)) }
     {

@@ -12,10 +12,12 @@ use Rattle.serving.proofs.Lists.{last_is_pushed}
 use Rattle.serving.proofs.Passing.{clients_quiet}
 use Rattle.serving.proofs.Submitted.{asked_is_last}
 use Rattle.serving.proofs.Ripening.{node_asked, none_ripe_held, none_ripe_same}
-use Rattle.serving.proofs.Ending.{asked_never_refused}
+use Rattle.serving.proofs.Ending.{asked_never_refused, ends_asked, ends_before}
 use Rattle.serving.proofs.MovesOut.{never_before, passes_answer}
 use Rattle.serving.proofs.Passing.{passes_none}
 use Rattle.serving.proofs.Breaking.{on_err}
+use Rattle.serving.specs.Ending.{IsAsked}
+use Rattle.std.proofs.lemmas.Result.{err_from_is_err_and}
 use Rattle.serving.proofs.server.Server.answer.Goals as goal
 
 pub returns-in_err-hold-clause-serves : goal.returns-in_err-hold-clause-serves
@@ -167,3 +169,27 @@ pub returns-in_err-tell_answer-in-Some-last-clause-breaks : goal.returns-in_err-
 returns-in_err-tell_answer-in-Some-last-clause-breaks g c =
     on_err _ (
     c.in_err-tell_answer-in-Some-last.ensures.breaks)
+
+pub returns-in_err-hold-clause-stops : goal.returns-in_err-hold-clause-stops
+returns-in_err-hold-clause-stops g c =
+    let p = err_from_is_err_and c.from_residual.result c.from_residual.ensures.1 in
+    rw p.1 (ends_before g.S.Stable IsAsked _ _ p.0 p.2 refl)
+
+pub returns-in_err-fault-clause-stops : goal.returns-in_err-fault-clause-stops
+returns-in_err-fault-clause-stops g c =
+    let p = err_from_is_err_and c.from_residual-in_err-fault.result c.from_residual-in_err-fault.ensures.1 in
+    rw (p.1, p.2) (ends_asked g.S.Stable (life_of c.args.self.now.life) (life_of c.ask.new.self) c.args.question.query c.ask.result _
+    c.ask.ensures c.in_err-fault.ensures)
+
+pub returns-in-Some-clause-stops : goal.returns-in-Some-clause-stops
+returns-in-Some-clause-stops g c =
+    absurd (asked_never_refused g.S.Stable (life_of c.args.self.now.life) (life_of c.ask.new.self) c.args.question.query c.ask.result
+    c.in-Some.fault c.ask.ensures (subst (λ (o : Option NodeFault). IsRefusal c.ask.result (Ok o)) c.in-Some.is c.in_ok-fault.ensures))
+
+pub returns-in_err-tell_answer-in-Some-last-clause-stops : goal.returns-in_err-tell_answer-in-Some-last-clause-stops
+returns-in_err-tell_answer-in-Some-last-clause-stops g c =
+    let p = err_from_is_err_and c.from_residual-in_err-tell_answer-in-Some-last.result c.from_residual-in_err-tell_answer-in-Some-last.ensures.1 in
+    rw (p.1, p.2) (ends_before g.S.Stable IsAsked _ _ _ c.in_err-tell_answer-in-Some-last.ensures.memory
+    (node_asked g.S.Stable (life_of c.args.self.now.life) (life_of c.ask.new.self) (life_of c.hand_out-told.new.self) c.args.question.query
+    c.ask.result c.ask.ensures (subst (λ (o : Option NodeFault). IsRefusal c.ask.result (Ok o)) c.in_default.is c.in_ok-fault.ensures)
+    c.hand_out-told.ensures.left))

@@ -6,6 +6,9 @@ use Rattle.serving.specs.Waitings.{WaitingState}
 use Rattle.serving.proofs.Coming.{just_queried, serves_line_heard, serves_owing}
 use Rattle.serving.proofs.Holding.{holds_same}
 use Rattle.serving.proofs.Hearing.{line_asked}
+use Rattle.serving.proofs.Ending.{ends_before}
+use Rattle.serving.specs.Ending.{IsOfOthers}
+use Rattle.std.proofs.lemmas.Result.{err_from_is_err_and}
 use Rattle.serving.proofs.server.Server.ask.Goals as goal
 
 pub returns-in_err-add_due-clause-serves : goal.returns-in_err-add_due-clause-serves
@@ -26,3 +29,8 @@ returns-clause-taken g c =
     line_asked g.S.Stable (process_of c.args.self.now) _ c.args.connection c.args.text.now c.args.query c.args.position
     c.least_position-from.result c.requires c.least_position-from.ensures
     (ap (λ (w : WaitingState). record (process_of c.args.self.now) { waiting = w }) c.in_ok-add_due.ensures.added)
+
+pub returns-in_err-add_due-clause-stops : goal.returns-in_err-add_due-clause-stops
+returns-in_err-add_due-clause-stops g c =
+    let p = err_from_is_err_and c.from_residual.result c.from_residual.ensures.1 in
+    rw p.1 (ends_before g.S.Stable IsOfOthers _ _ p.0 p.2 refl)

@@ -2,7 +2,7 @@ use Rattle.std.proofs.Common.{ap, inl, inr, refl, ◌∙◌}
 use Rattle.serving.specs.Processes.{ProcessState}
 use Rattle.serving.specs.Seen.{server_of}
 use Rattle.serving.proofs.Keeping.{never_so}
-use Rattle.serving.proofs.Packets.{on_ok_so}
+use Rattle.serving.proofs.Packets.{on_fault_so, on_ok_so}
 use Rattle.serving.proofs.Leading.{serves_none}
 use Rattle.serving.proofs.server.Server.campaign_if_due.Goals as goal
 
@@ -27,3 +27,7 @@ returns-clause-campaigns g c =
       ap (λ (p : ProcessState _). p.timing) c.give.ensures.others ∙ c.campaign.ensures,
     ))
     c.give.ensures.gives
+
+pub returns-clause-stops : goal.returns-clause-stops
+returns-clause-stops g c =
+    on_fault_so c.give.result (λ fault ends. (c.is_campaign_due.ensures.0 c.if-not-is_campaign_due.false, ends)) c.give.ensures.stops

@@ -3,9 +3,9 @@ use Rattle.serving.specs.Seen.{server_of}
 use Rattle.serving.proofs.Coming.{serves_given}
 use Rattle.life.specs.Seen.{life_of}
 use Rattle.serving.proofs.Givings.{was_given}
-use Rattle.serving.proofs.Breaking.{on_err}
-use Rattle.serving.proofs.Stopping.{near_took}
-use Rattle.world_model.specs.Lives.{Took}
+use Rattle.serving.proofs.Ending.{ends_took}
+use Rattle.serving.specs.Ending.{IsGiven}
+use Rattle.std.proofs.lemmas.Result.{err_from_is_err_and}
 use Rattle.serving.proofs.server.Server.give.Goals as goal
 
 pub returns-in_err-refusal-clause-serves : goal.returns-in_err-refusal-clause-serves
@@ -21,6 +21,8 @@ returns-clause-gives g c =
     was_given g.S.Stable (life_of c.args.self.now.life) (life_of c.take.new.self) c.args.input c.take.result c.in_ok-refusal.field-0
     c.take.ensures c.in_ok-refusal.ensures
 
-pub returns-in_err-refusal-clause-near : goal.returns-in_err-refusal-clause-near
-returns-in_err-refusal-clause-near g c =
-    on_err _ (near_took g.S.Stable (life_of c.args.self.now.life) (life_of c.take.new.self) c.args.input c.take.result c.take.ensures)
+pub returns-in_err-refusal-clause-stops : goal.returns-in_err-refusal-clause-stops
+returns-in_err-refusal-clause-stops g c =
+    let p = err_from_is_err_and c.from_residual.result c.from_residual.ensures.1 in
+    rw (p.1, p.2) (ends_took g.S.Stable (IsGiven c.args.input) (life_of c.args.self.now.life) (life_of c.take.new.self) c.args.input
+    c.take.result _ (λ result. refl) c.take.ensures c.in_err-refusal.ensures)

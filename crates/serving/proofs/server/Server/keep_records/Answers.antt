@@ -5,9 +5,8 @@ use Rattle.life.specs.Seen.{life_of}
 use Rattle.serving.proofs.Checkpointing.{IsFloor, checkpointed_already, checkpointed_now, checkpointed_still, checkpoint_keeps_own, not_checkpointed, trim_keeps_own}
 use Rattle.serving.proofs.Keeping.{moves_given_twice}
 use Rattle.serving.proofs.Leading.{serves_none, serves_then}
-use Rattle.serving.proofs.Breaking.{on_err}
-use Rattle.serving.proofs.Stopping.{near_given, near_then}
-use Rattle.node_model.specs.declared.input.Input.TheVariants as input
+use Rattle.serving.specs.Moves.StopsKeepingRecords.{at_checkpoint, at_trim}
+use Rattle.std.proofs.lemmas.Result.{err_from_is_err_and}
 use Rattle.serving.proofs.server.Server.keep_records.Goals as goal
 
 pub returns-then-not-is_checkpoint_due-clause-serves : goal.returns-then-not-is_checkpoint_due-clause-serves
@@ -51,8 +50,18 @@ returns-clause-own g c =
     trim_keeps_own g.S.Stable (life_of c.give.new.self.life) (life_of c.give-2.new.self.life) c.in_ok-give-2.ensures.gives
     ∙ checkpoint_keeps_own g.S.Stable (life_of c.args.self.now.life) (life_of c.give.new.self.life) c.in_ok-give.ensures.gives
 
-pub returns-in_err-give-2-clause-near : goal.returns-in_err-give-2-clause-near
-returns-in_err-give-2-clause-near g c =
-    on_err _ (near_then g.S.Stable 1 1 _ _ _
-    (near_given g.S.Stable (life_of c.args.self.now.life) (life_of c.give.new.self.life) input.Checkpoint c.in_ok-give.ensures.gives)
-    c.in_err-give-2.ensures.near)
+pub returns-in_err-give-clause-stops : goal.returns-in_err-give-clause-stops
+returns-in_err-give-clause-stops g c =
+    let due = not_checkpointed (life_of c.args.self.now.life).node c.position.result c.floor.result c.position.ensures
+    (subst (λ n. IsFloor n c.floor.result) c.node.ensures c.floor.ensures)
+    (c.is_checkpoint_due.ensures.0 c.if-not-is_checkpoint_due.false) in
+    let p = err_from_is_err_and c.from_residual.result c.from_residual.ensures.1 in
+    rw (p.1, p.2) (at_checkpoint due c.in_err-give.ensures.stops)
+
+pub returns-in_err-give-2-clause-stops : goal.returns-in_err-give-2-clause-stops
+returns-in_err-give-2-clause-stops g c =
+    let due = not_checkpointed (life_of c.args.self.now.life).node c.position.result c.floor.result c.position.ensures
+    (subst (λ n. IsFloor n c.floor.result) c.node.ensures c.floor.ensures)
+    (c.is_checkpoint_due.ensures.0 c.if-not-is_checkpoint_due.false) in
+    let p = err_from_is_err_and c.from_residual-in_err-give-2.result c.from_residual-in_err-give-2.ensures.1 in
+    rw (p.1, p.2) (at_trim (life_of c.give.new.self.life) due c.in_ok-give.ensures.gives c.in_err-give-2.ensures.stops)

@@ -4,8 +4,9 @@ use Rattle.life.specs.Seen.{life_of}
 use Rattle.serving.specs.Processes.{ProcessState}
 use Rattle.serving.specs.Seen.{process_of}
 use Rattle.serving.proofs.Keeping.{keeps_time_so}
-use Rattle.serving.proofs.Packets.{on_ok_so}
-use Rattle.serving.proofs.Stopping.{near_tail, near_where}
+use Rattle.serving.proofs.Packets.{on_fault_so, on_ok_so}
+use Rattle.serving.proofs.Stopping.{stops_campaigning, stops_ticking}
+use Rattle.std.proofs.lemmas.Result.{err_from_is_err_and}
 use Rattle.serving.proofs.server.Server.keep_time.Goals as goal
 
 pub returns-clause-serves : goal.returns-clause-serves
@@ -25,8 +26,17 @@ returns-clause-others g c =
     ∙ ap (λ (p : ProcessState _). record p { life = life_of c.tick_if_due.new.self.life; timing = c.tick_if_due.new.self.timing })
     c.campaign_if_due.ensures.others
 
-pub returns-clause-near : goal.returns-clause-near
-returns-clause-near g c =
-    near_tail g.S.Stable c.tick_if_due.result _ _ _
-    (near_where g.S.Stable _ _ _ _ _ (life_of c.args.self.now.life) (life_of c.campaign_if_due.new.self.life)
-    c.in_ok-campaign_if_due.ensures.campaigns) c.tick_if_due.ensures.near
+pub returns-in_err-campaign_if_due-clause-stops : goal.returns-in_err-campaign_if_due-clause-stops
+returns-in_err-campaign_if_due-clause-stops g c =
+    let p = err_from_is_err_and c.from_residual.result c.from_residual.ensures.1 in
+    rw (p.1, p.2) (stops_campaigning g.S.Stable c.args.now (process_of c.args.self.now) c.position-position.result
+    c.is_asked-is_asked.result c.see_position.new.self _ _ c.position-position.ensures c.is_asked-is_asked.ensures c.see_position.ensures
+    c.in_err-campaign_if_due.ensures.stops.0 c.in_err-campaign_if_due.ensures.stops.1)
+
+pub returns-clause-stops : goal.returns-clause-stops
+returns-clause-stops g c =
+    on_fault_so c.tick_if_due.result
+    (λ fault stops. stops_ticking g.S.Stable c.args.now (process_of c.args.self.now) (process_of c.campaign_if_due.new.self)
+    c.position-position.result c.is_asked-is_asked.result c.see_position.new.self fault _ c.position-position.ensures
+    c.is_asked-is_asked.ensures c.see_position.ensures c.in_ok-campaign_if_due.ensures.campaigns stops.0 stops.1)
+    c.tick_if_due.ensures.stops

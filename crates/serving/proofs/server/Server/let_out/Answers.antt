@@ -8,7 +8,7 @@ use Rattle.serving.proofs.Holding.{less_itself}
 use Rattle.serving.proofs.Passing.{only_none}
 use Rattle.world_model.specs.declared.lists.Replied.{Replied}
 use Rattle.wire.specs.declared.frames.envelope.Envelope.{Envelope}
-use Rattle.serving.specs.Outgoing.{IsFrameOf, IsReplyIn}
+use Rattle.serving.specs.Outgoing.{IsFrameOf}
 use Rattle.serving.specs.Requesting.{unreplied}
 use Rattle.serving.specs.Serving.{Passes, PassesOnly}
 use Rattle.serving.specs.Waitings.{WaitingState}

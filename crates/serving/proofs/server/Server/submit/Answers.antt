@@ -9,7 +9,7 @@ use Rattle.clients.specs.declared.line.ClientLine.TheVariants as client_line
 use Rattle.node_model.specs.declared.fault.NodeFault.{NodeFault}
 use Rattle.serving.specs.Seen.{process_of, server_of}
 use Rattle.serving.specs.Tapes.{Heard}
-use Rattle.serving.specs.Turns.{MayBeHandedOn, refused}
+use Rattle.serving.specs.Turns.{IsOfProcess, MayBeHandedOn, refused}
 use Rattle.serving.specs.declared.waiting.Due.TheVariants as due
 use Rattle.serving.specs.Refusals.{IsRefusal}
 use Rattle.serving.specs.Waitings.{WaitingState}
@@ -17,8 +17,10 @@ use Rattle.serving.proofs.Coming.{just_asked, just_handed_on, just_written, requ
 use Rattle.serving.proofs.Holding.{holds_claim, holds_due, holds_same}
 use Rattle.serving.proofs.Submitted.{refuses_so}
 use Rattle.serving.proofs.Hearing.{line_refused, line_submitted}
-use Rattle.serving.proofs.Breaking.{on_err}
-use Rattle.serving.proofs.Stopping.{near_took}
+use Rattle.serving.proofs.Ending.{ends_behind, ends_took}
+use Rattle.serving.proofs.Givings.{was_given}
+use Rattle.serving.specs.Ending.{IsOfOthers}
+use Rattle.std.proofs.lemmas.Result.{err_from_is_err_and}
 use Rattle.serving.proofs.server.Server.submit.Goals as goal
 
 pub returns-in_err-fault-clause-serves : goal.returns-in_err-fault-clause-serves
@@ -104,27 +106,40 @@ returns-in_ok-add-in-None-clause-taken g c =
     (subst (λ (o : Option NodeFault). IsRefusal c.take-outcome.result (Ok o)) c.in-None.is c.in_ok-fault.ensures)
     c.in_ok-add_claim-in-None.ensures.added c.in_ok-add-in-None.ensures.added refl
 
-pub returns-in_err-fault-clause-near : goal.returns-in_err-fault-clause-near
-returns-in_err-fault-clause-near g c =
-    on_err _ (near_took g.S.Stable (life_of c.args.self.now.life) (life_of c.take-outcome.new.self) c.input_of.result
-    c.take-outcome.result c.take-outcome.ensures)
+pub returns-in_err-fault-clause-stops : goal.returns-in_err-fault-clause-stops
+returns-in_err-fault-clause-stops g c =
+    let p = err_from_is_err_and c.from_residual.result c.from_residual.ensures.1 in
+    rw (p.1, p.2) (ends_took g.S.Stable IsOfOthers (life_of c.args.self.now.life) (life_of c.take-outcome.new.self) c.input_of.result
+    c.take-outcome.result _ (λ result no. subst IsOfProcess c.input_of.ensures no) c.take-outcome.ensures c.in_err-fault.ensures)
 
-pub returns-in_err-line-in-Some-clause-near : goal.returns-in_err-line-in-Some-clause-near
-returns-in_err-line-in-Some-clause-near g c =
-    on_err _ (near_took g.S.Stable (life_of c.args.self.now.life) (life_of c.take-outcome.new.self) c.input_of.result
-    c.take-outcome.result c.take-outcome.ensures)
+pub returns-in_err-line-in-Some-clause-stops : goal.returns-in_err-line-in-Some-clause-stops
+returns-in_err-line-in-Some-clause-stops g c =
+    let p = err_from_is_err_and c.from_residual-in_err-line-in-Some.result c.from_residual-in_err-line-in-Some.ensures.1 in
+    rw p.1 (ends_behind g.S.Stable IsOfOthers (life_of c.args.self.now.life) (life_of c.take-outcome.new.self) c.input_of.result p.0 p.2
+    (λ result no. subst IsOfProcess c.input_of.ensures no)
+    (was_given g.S.Stable (life_of c.args.self.now.life) (life_of c.take-outcome.new.self) c.input_of.result c.take-outcome.result
+    c.in_ok-fault.field-0 c.take-outcome.ensures c.in_ok-fault.ensures))
 
-pub returns-in_err-add_due-in-Some-clause-near : goal.returns-in_err-add_due-in-Some-clause-near
-returns-in_err-add_due-in-Some-clause-near g c =
-    on_err _ (near_took g.S.Stable (life_of c.args.self.now.life) (life_of c.take-outcome.new.self) c.input_of.result
-    c.take-outcome.result c.take-outcome.ensures)
+pub returns-in_err-add_due-in-Some-clause-stops : goal.returns-in_err-add_due-in-Some-clause-stops
+returns-in_err-add_due-in-Some-clause-stops g c =
+    let p = err_from_is_err_and c.from_residual-in_err-add_due-in-Some.result c.from_residual-in_err-add_due-in-Some.ensures.1 in
+    rw p.1 (ends_behind g.S.Stable IsOfOthers (life_of c.args.self.now.life) (life_of c.take-outcome.new.self) c.input_of.result p.0 p.2
+    (λ result no. subst IsOfProcess c.input_of.ensures no)
+    (was_given g.S.Stable (life_of c.args.self.now.life) (life_of c.take-outcome.new.self) c.input_of.result c.take-outcome.result
+    c.in_ok-fault.field-0 c.take-outcome.ensures c.in_ok-fault.ensures))
 
-pub returns-in_err-add_claim-in-None-clause-near : goal.returns-in_err-add_claim-in-None-clause-near
-returns-in_err-add_claim-in-None-clause-near g c =
-    on_err _ (near_took g.S.Stable (life_of c.args.self.now.life) (life_of c.take-outcome.new.self) c.input_of.result
-    c.take-outcome.result c.take-outcome.ensures)
+pub returns-in_err-add_claim-in-None-clause-stops : goal.returns-in_err-add_claim-in-None-clause-stops
+returns-in_err-add_claim-in-None-clause-stops g c =
+    let p = err_from_is_err_and c.from_residual-in_err-add_claim-in-None.result c.from_residual-in_err-add_claim-in-None.ensures.1 in
+    rw p.1 (ends_behind g.S.Stable IsOfOthers (life_of c.args.self.now.life) (life_of c.take-outcome.new.self) c.input_of.result p.0 p.2
+    (λ result no. subst IsOfProcess c.input_of.ensures no)
+    (was_given g.S.Stable (life_of c.args.self.now.life) (life_of c.take-outcome.new.self) c.input_of.result c.take-outcome.result
+    c.in_ok-fault.field-0 c.take-outcome.ensures c.in_ok-fault.ensures))
 
-pub returns-in_err-add-in-None-clause-near : goal.returns-in_err-add-in-None-clause-near
-returns-in_err-add-in-None-clause-near g c =
-    on_err _ (near_took g.S.Stable (life_of c.args.self.now.life) (life_of c.take-outcome.new.self) c.input_of.result
-    c.take-outcome.result c.take-outcome.ensures)
+pub returns-in_err-add-in-None-clause-stops : goal.returns-in_err-add-in-None-clause-stops
+returns-in_err-add-in-None-clause-stops g c =
+    let p = err_from_is_err_and c.from_residual-in_err-add-in-None.result c.from_residual-in_err-add-in-None.ensures.1 in
+    rw p.1 (ends_behind g.S.Stable IsOfOthers (life_of c.args.self.now.life) (life_of c.take-outcome.new.self) c.input_of.result p.0 p.2
+    (λ result no. subst IsOfProcess c.input_of.ensures no)
+    (was_given g.S.Stable (life_of c.args.self.now.life) (life_of c.take-outcome.new.self) c.input_of.result c.take-outcome.result
+    c.in_ok-fault.field-0 c.take-outcome.ensures c.in_ok-fault.ensures))

@@ -5,12 +5,13 @@ use Rattle.node_model.specs.declared.input.Input.{Input}
 use Rattle.world_model.specs.Lives.{Took}
 use Rattle.node_model.specs.declared.input.Input.TheVariants as input
 use Rattle.serving.specs.Seen.{server_of}
-use Rattle.serving.specs.Turns.{handed_on}
+use Rattle.serving.specs.Turns.{IsOfProcess, handed_on}
 use Rattle.serving.proofs.Coming.{serves_handed_on, serves_passing_over}
 use Rattle.serving.proofs.Givings.{was_given}
 use Rattle.serving.proofs.Packets.{has_last, not_counted}
-use Rattle.serving.proofs.Breaking.{on_err}
-use Rattle.serving.proofs.Stopping.{near_took}
+use Rattle.serving.proofs.Ending.{ends_took}
+use Rattle.serving.specs.Ending.{IsOfOthers}
+use Rattle.std.proofs.lemmas.Result.{err_from_is_err_and}
 use Rattle.serving.proofs.server.Server.submit_once.Goals as goal
 
 pub returns-then-has_counted-clause-serves : goal.returns-then-has_counted-clause-serves
@@ -53,6 +54,8 @@ returns-clause-taken g c =
           c.input_of.ensures c.take.ensures) c.in_ok-refusal.ensures,
     )
 
-pub returns-in_err-refusal-clause-near : goal.returns-in_err-refusal-clause-near
-returns-in_err-refusal-clause-near g c =
-    on_err _ (near_took g.S.Stable (life_of c.args.self.now.life) (life_of c.take.new.self) c.input_of.result c.take.result c.take.ensures)
+pub returns-in_err-refusal-clause-stops : goal.returns-in_err-refusal-clause-stops
+returns-in_err-refusal-clause-stops g c =
+    let p = err_from_is_err_and c.from_residual.result c.from_residual.ensures.1 in
+    rw (p.1, p.2) (ends_took g.S.Stable IsOfOthers (life_of c.args.self.now.life) (life_of c.take.new.self) c.input_of.result c.take.result
+    _ (λ result no. subst IsOfProcess c.input_of.ensures no) c.take.ensures c.in_err-refusal.ensures)

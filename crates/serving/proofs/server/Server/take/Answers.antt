@@ -7,9 +7,10 @@ use Rattle.serving.proofs.Moving.{both_taken, moves_then}
 use Rattle.serving.proofs.Passing.{over_kept, over_nodes, over_told}
 use Rattle.std.proofs.Common.{List}
 use Rattle.serving.specs.Resting.{HasRead}
-use Rattle.serving.specs.Tapes.{Carried, Talk, polled, read}
+use Rattle.serving.specs.Tapes.{Carried, polled}
 use Rattle.serving.proofs.Breaking.{breaks_behind_lines, breaks_still, breaks_then, frames_kept, on_err}
-use Rattle.serving.proofs.Stopping.{both_stop_behind, both_stop_frames, both_stop_lines, both_stop_own, both_stop_timing}
+use Rattle.serving.proofs.Stopping.{both_stop_behind, both_stop_frames, both_stop_lines, both_stop_timing, stops_at_own, stops_at_records}
+use Rattle.std.proofs.lemmas.Result.{err_from_is_err_and}
 use Rattle.serving.proofs.server.Server.take.Goals as goal
 
 pub returns-in_err-more_frames-clause-serves : goal.returns-in_err-more_frames-clause-serves
@@ -106,13 +107,15 @@ returns-in_err-keep_records-clause-breaks g c =
 
 pub returns-in_err-more_frames-clause-stops : goal.returns-in_err-more_frames-clause-stops
 returns-in_err-more_frames-clause-stops g c =
-    on_err _ (both_stop_frames g.S.Stable c.args.now g.N.Network.tape g.N.Network.Tells g.D.Desk.tape g.D.Desk.Tells (process_of c.args.self.now) _ _ c.args.desk.now _
+    let p = err_from_is_err_and c.from_residual.result c.from_residual.ensures.1 in
+    rw (p.1, p.2) (both_stop_frames g.S.Stable c.args.now g.N.Network.tape g.N.Network.Tells g.D.Desk.tape g.D.Desk.Tells (process_of c.args.self.now) _ _ c.args.desk.now _ _
     c.in_err-more_frames.ensures.stops)
 
 pub returns-in_err-more_lines-clause-stops : goal.returns-in_err-more_lines-clause-stops
 returns-in_err-more_lines-clause-stops g c =
-    on_err _ (both_stop_lines g.S.Stable c.args.now g.N.Network.tape g.N.Network.Tells g.D.Desk.tape g.D.Desk.Tells (λ (xs : List Carried). HasRead polled xs c.in_ok-more_frames.more_frames)
-    (process_of c.args.self.now) (process_of c.take_frames.new.self) _ _ _ _ _ c.in_ok-more_frames.ensures.takes
+    let p = err_from_is_err_and c.from_residual-in_err-more_lines.result c.from_residual-in_err-more_lines.ensures.1 in
+    rw (p.1, p.2) (both_stop_lines g.S.Stable c.args.now g.N.Network.tape g.N.Network.Tells g.D.Desk.tape g.D.Desk.Tells (λ (xs : List Carried). HasRead polled xs c.in_ok-more_frames.more_frames)
+    (process_of c.args.self.now) (process_of c.take_frames.new.self) _ _ _ _ _ _ c.in_ok-more_frames.ensures.takes
     (c.in_err-more_lines.ensures.stops c.args.now))
 
 pub returns-in_err-keep_time-clause-stops : goal.returns-in_err-keep_time-clause-stops
@@ -120,10 +123,10 @@ returns-in_err-keep_time-clause-stops g c =
     let p = process_of c.args.self.now in
     let framed = process_of c.take_frames.new.self in
     let lined = process_of c.take_lines.new.self in
-    on_err _ (both_stop_timing g.S.Stable c.args.now g.N.Network.tape g.N.Network.Tells g.D.Desk.tape g.D.Desk.Tells
-    (λ (xs : List Carried). HasRead polled xs c.in_ok-more_frames.more_frames) (λ (xs : List Talk). HasRead read xs c.in_ok-more_lines.more_lines)
-    p framed lined _ _ _ _ _ c.in_ok-more_frames.ensures.takes (c.in_ok-more_lines.ensures.takes c.args.now)
-    c.in_err-keep_time.ensures.near)
+    let x = err_from_is_err_and c.from_residual-in_err-keep_time.result c.from_residual-in_err-keep_time.ensures.1 in
+    rw (x.1, x.2) (both_stop_timing g.S.Stable c.args.now g.N.Network.tape g.N.Network.Tells g.D.Desk.tape g.D.Desk.Tells
+    p framed lined _ _ _ _ _ _ _ _ c.in_ok-more_frames.ensures.takes (c.in_ok-more_lines.ensures.takes c.args.now)
+    c.in_err-keep_time.ensures.stops)
 
 pub returns-in_err-take_own-clause-stops : goal.returns-in_err-take_own-clause-stops
 returns-in_err-take_own-clause-stops g c =
@@ -131,10 +134,11 @@ returns-in_err-take_own-clause-stops g c =
     let framed = process_of c.take_frames.new.self in
     let lined = process_of c.take_lines.new.self in
     let timed = process_of c.keep_time.new.self in
-    let stops = c.in_err-take_own.ensures.stops c.args.now in
-    on_err _ (both_stop_own g.S.Stable c.args.now g.N.Network.tape g.N.Network.Tells g.D.Desk.tape g.D.Desk.Tells
-    p framed lined timed (life_of c.keep_time.new.self.life) c.keep_time.new.self.timing _ _ _ _ _ _ _ c.in_ok-more_frames.ensures.takes
-    (c.in_ok-more_lines.ensures.takes c.args.now) c.in_ok-keep_time.ensures.keeps c.keep_time.ensures.others stops)
+    let x = err_from_is_err_and c.from_residual-in_err-take_own.result c.from_residual-in_err-take_own.ensures.1 in
+    rw (x.1, x.2) (both_stop_behind g.S.Stable c.args.now g.N.Network.tape g.N.Network.Tells g.D.Desk.tape g.D.Desk.Tells
+    p framed lined _ _ _ _ _ _ _ _ c.in_ok-more_frames.ensures.takes (c.in_ok-more_lines.ensures.takes c.args.now)
+    (stops_at_own g.S.Stable c.args.now lined timed (life_of c.keep_time.new.self.life) c.keep_time.new.self.timing _ _
+    c.in_ok-keep_time.ensures.keeps c.keep_time.ensures.others (c.in_err-take_own.ensures.stops c.args.now)))
 
 pub returns-in_err-keep_records-clause-stops : goal.returns-in_err-keep_records-clause-stops
 returns-in_err-keep_records-clause-stops g c =
@@ -143,8 +147,9 @@ returns-in_err-keep_records-clause-stops g c =
     let lined = process_of c.take_lines.new.self in
     let timed = process_of c.keep_time.new.self in
     let own = process_of c.take_own.new.self in
-    on_err _ (both_stop_behind g.S.Stable c.args.now g.N.Network.tape g.N.Network.Tells g.D.Desk.tape g.D.Desk.Tells
-    p framed lined own (life_of c.keep_time.new.self.life) c.keep_time.new.self.timing _ _ _ _ _ _ _ c.in_ok-more_frames.ensures.takes
-    (c.in_ok-more_lines.ensures.takes c.args.now) c.in_ok-keep_time.ensures.keeps
-    (subst (λ (q : ProcessState _). Moves g.S.Stable c.args.now Taking q [] [] own) c.keep_time.ensures.others
-    (c.in_ok-take_own.ensures.moves c.args.now)) c.in_err-keep_records.ensures.near)
+    let x = err_from_is_err_and c.from_residual-in_err-keep_records.result c.from_residual-in_err-keep_records.ensures.1 in
+    rw (x.1, x.2) (both_stop_behind g.S.Stable c.args.now g.N.Network.tape g.N.Network.Tells g.D.Desk.tape g.D.Desk.Tells
+    p framed lined _ _ _ _ _ _ _ _ c.in_ok-more_frames.ensures.takes (c.in_ok-more_lines.ensures.takes c.args.now)
+    (stops_at_records g.S.Stable c.args.now lined timed own (life_of c.keep_time.new.self.life) c.keep_time.new.self.timing _ _
+    c.in_ok-keep_time.ensures.keeps c.keep_time.ensures.others (c.in_ok-take_own.ensures.moves c.args.now)
+    c.in_err-keep_records.ensures.stops))

@@ -1,4 +1,4 @@
-use Rattle.std.proofs.Common.{refl, subst}
+use Rattle.std.proofs.Common.{ap, refl, subst}
 use Rattle.life.specs.Seen.{life_of}
 use Rattle.clients.specs.ClientLines.{IsClientLine}
 use Rattle.clients.specs.declared.line.ClientLine.{ClientLine}
@@ -8,8 +8,10 @@ use Rattle.clients.specs.declared.answer.ClientAnswer.TheVariants as answer
 use Rattle.serving.specs.Turns.{last, status}
 use Rattle.serving.specs.Seen.{process_of}
 use Rattle.serving.proofs.Hearing.{line_owed, own_last, own_status}
-use Rattle.serving.proofs.Packets.{on_ok_so}
+use Rattle.serving.proofs.Packets.{on_fault_so, on_ok_so}
 use Rattle.serving.proofs.Coming.{just_written}
+use Rattle.serving.proofs.Ending.{ends_before}
+use Rattle.serving.specs.Ending.{IsOfOthers}
 use Rattle.serving.proofs.server.Server.take_asked.Goals as goal
 
 pub submit-requires : goal.submit-requires
@@ -47,3 +49,13 @@ returns-in-Last-clause-taken g c =
     (own_last (process_of c.args.self.now) c.args.text.now c.in-Last.client c.last_number-number.result
     (subst (λ (a : ClientLine). IsClientLine c.args.text.now a) c.in-Last.is c.requires) c.last_number-number.ensures))
     c.owe-in-Last.ensures.owes
+
+pub returns-in-Status-clause-stops : goal.returns-in-Status-clause-stops
+returns-in-Status-clause-stops g c =
+    on_fault_so c.owe.result
+    (λ fault is. ends_before g.S.Stable IsOfOthers _ _ fault is (ap (λ l. (life_of l).node) c.owe.ensures.life)) c.owe.ensures.memory
+
+pub returns-in-Last-clause-stops : goal.returns-in-Last-clause-stops
+returns-in-Last-clause-stops g c =
+    on_fault_so c.owe-in-Last.result
+    (λ fault is. ends_before g.S.Stable IsOfOthers _ _ fault is (ap (λ l. (life_of l).node) c.owe-in-Last.ensures.life)) c.owe-in-Last.ensures.memory

@@ -6,8 +6,8 @@ use Rattle.serving.specs.Seen.{server_of}
 use Rattle.serving.proofs.Holding.{holds_same}
 use Rattle.serving.proofs.Leading.{serves_taking_back}
 use Rattle.serving.proofs.Arriving.{refused_back, taken_back}
-use Rattle.serving.proofs.Breaking.{on_err}
-use Rattle.serving.proofs.Stopping.{near_back}
+use Rattle.serving.proofs.Ending.{ends_back}
+use Rattle.std.proofs.lemmas.Result.{err_from_is_err_and}
 use Rattle.serving.proofs.server.Server.take_back.Goals as goal
 
 pub returns-in-Ok-clause-serves : goal.returns-in-Ok-clause-serves
@@ -38,8 +38,9 @@ returns-in_ok-refusal-in-Err-clause-takes g c =
     c.take_back.ensures)
     c.in_ok-refusal-in-Err.ensures
 
-pub returns-in_err-refusal-in-Err-clause-near : goal.returns-in_err-refusal-in-Err-clause-near
-returns-in_err-refusal-in-Err-clause-near g c =
-    on_err _ (near_back g.S.Stable (life_of c.args.self.now.life) (life_of c.take_back.new.self) c.in-Err.fault
+pub returns-in_err-refusal-in-Err-clause-stops : goal.returns-in_err-refusal-in-Err-clause-stops
+returns-in_err-refusal-in-Err-clause-stops g c =
+    let p = err_from_is_err_and c.from_residual.result c.from_residual.ensures.1 in
+    rw (p.1, p.2) (ends_back g.S.Stable (life_of c.args.self.now.life) (life_of c.take_back.new.self) c.in-Err.fault _
     (subst (λ (r : Result Bool LifeFault). TakesBack g.S.Stable (life_of c.args.self.now.life) r (life_of c.take_back.new.self)) c.in-Err.is
-    c.take_back.ensures))
+    c.take_back.ensures) c.in_err-refusal-in-Err.ensures)

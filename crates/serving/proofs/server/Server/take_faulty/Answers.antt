@@ -9,8 +9,11 @@ use Rattle.serving.specs.Tapes.{Heard}
 use Rattle.serving.specs.Turns.{faulty}
 use Rattle.serving.proofs.Coming.{serves_line_heard}
 use Rattle.serving.proofs.Hearing.{line_owed, own_fault}
-use Rattle.serving.proofs.Packets.{on_ok_so}
+use Rattle.serving.proofs.Packets.{on_fault_so, on_ok_so}
 use Rattle.serving.proofs.Holding.{holds_same}
+use Rattle.serving.proofs.Ending.{ends_before}
+use Rattle.serving.specs.Ending.{IsOfOthers}
+use Rattle.life.specs.Seen.{life_of}
 use Rattle.serving.proofs.server.Server.take_faulty.Goals as goal
 
 pub returns-in-World-clause-serves : goal.returns-in-World-clause-serves
@@ -33,3 +36,11 @@ returns-in-Schedule-clause-taken g c =
     (subst (λ (r : ReplayCause). IsClientFault c.args.text.now r) c.in-Schedule.is c.requires)
     (ap (λ (n : ℕ). answer_line (answer.Fault n)) c.code-code.ensures)))
     c.owe.ensures.owes
+
+pub returns-in-Schedule-clause-stops : goal.returns-in-Schedule-clause-stops
+returns-in-Schedule-clause-stops g c =
+    on_fault_so c.owe.result
+    (λ fault is. ends_before g.S.Stable IsOfOthers _ _ fault is (ap (λ l. (life_of l).node) c.owe.ensures.life)) c.owe.ensures.memory
+
+pub returns-in-World-clause-stops : goal.returns-in-World-clause-stops
+returns-in-World-clause-stops g c = ends_before g.S.Stable IsOfOthers _ _ _ refl refl

@@ -7,10 +7,10 @@ use Rattle.serving.specs.Tapes.{Carried, polled}
 use Rattle.serving.proofs.Moving.{moves_then}
 use Rattle.serving.proofs.Passing.{nodes_none, nodes_then, only_none, only_then}
 use Rattle.serving.proofs.Taking.{came_then, none_came, read_the_most, read_to_the_last}
-use Rattle.serving.proofs.Breaking.{on_err}
 use Rattle.serving.proofs.Stopping.{nodes_stop_then}
 use Rattle.serving.specs.Resting.{AllCame}
 use Rattle.std.proofs.Common.{◌≡◌, length}
+use Rattle.std.proofs.lemmas.Result.{err_from_is_err_and}
 use Rattle.serving.proofs.server.Server.take_frames.Goals as goal
 
 pub frames-init : goal.frames-init
@@ -73,8 +73,9 @@ returns-clause-takes g c =
 
 pub returns-in_err-take_next_frame-clause-stops : goal.returns-in_err-take_next_frame-clause-stops
 returns-in_err-take_next_frame-clause-stops g c =
-    on_err _ (nodes_stop_then g.S.Stable c.args.now g.N.Network.tape g.N.Network.Tells (λ (xs : List Carried). AllCame polled xs × (length xs ≡ c.frames.counter))
-    (process_of c.args.self.now) (process_of c.frames.self) c.args.network.now c.frames.network c.take_next_frame.new.network _
+    let p = err_from_is_err_and c.from_residual.result c.from_residual.ensures.1 in
+    rw (p.1, p.2) (nodes_stop_then g.S.Stable c.args.now g.N.Network.tape g.N.Network.Tells (λ (xs : List Carried). AllCame polled xs × (length xs ≡ c.frames.counter))
+    (process_of c.args.self.now) (process_of c.frames.self) c.args.network.now c.frames.network c.take_next_frame.new.network _ _
     (record {
       passed = c.frames.invariant.3.passed;
       are = (c.frames.invariant.3.are.0, (c.frames.invariant.3.are.1, c.frames.invariant.3.are.2));

@@ -8,6 +8,9 @@ use Rattle.serving.specs.Seen.{server_of}
 use Rattle.serving.specs.Turns.{handed_on}
 use Rattle.serving.proofs.Coming.{serves_passing_over}
 use Rattle.serving.proofs.Packets.{on_ok_so, passed_over, taken_over}
+use Rattle.serving.proofs.Ending.{ends_before}
+use Rattle.serving.specs.Ending.{IsOfOthers}
+use Rattle.std.proofs.lemmas.Result.{err_from_is_err_and}
 use Rattle.serving.proofs.server.Server.take_handed_on.Goals as goal
 
 pub returns-in_default-clause-serves : goal.returns-in_default-clause-serves
@@ -31,3 +34,8 @@ returns-clause-taken g c =
     (subst (λ (o : Option Submission). MatchOption o (SubmitsNothing c.args.line.now)
     (λ submission. IsClientLine c.args.line.now (client_line.Submit submission))) c.in-Some.is c.in_ok-found.ensures.found))
     c.submit_once.ensures.taken
+
+pub returns-in_err-found-clause-stops : goal.returns-in_err-found-clause-stops
+returns-in_err-found-clause-stops g c =
+    let p = err_from_is_err_and c.from_residual.result c.from_residual.ensures.1 in
+    rw (p.1, p.2) (ends_before g.S.Stable IsOfOthers _ _ _ c.in_err-found.ensures.memory refl)

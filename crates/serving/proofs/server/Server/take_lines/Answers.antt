@@ -9,6 +9,7 @@ use Rattle.serving.proofs.Taking.{came_then, none_came, read_the_most, read_to_t
 use Rattle.serving.specs.Resting.{AllCame}
 use Rattle.serving.proofs.Breaking.{breaks_then, lines_kept, on_err}
 use Rattle.serving.proofs.Stopping.{clients_stop_then}
+use Rattle.std.proofs.lemmas.Result.{err_from_is_err_and}
 use Rattle.serving.proofs.server.Server.take_lines.Goals as goal
 
 pub lines-init : goal.lines-init
@@ -75,8 +76,9 @@ returns-in_err-take_next_line-clause-breaks g c =
 
 pub returns-in_err-take_next_line-clause-stops : goal.returns-in_err-take_next_line-clause-stops
 returns-in_err-take_next_line-clause-stops g c = λ now.
-    on_err _ (clients_stop_then g.S.Stable now g.D.Desk.tape g.D.Desk.Tells (λ (xs : List Talk). AllCame read xs × (length xs ≡ c.lines.counter))
-    (process_of c.args.self.now) (process_of c.lines.self) c.args.desk.now c.lines.desk c.take_next_line.new.desk _
+    let p = err_from_is_err_and c.from_residual.result c.from_residual.ensures.1 in
+    rw (p.1, p.2) (clients_stop_then g.S.Stable now g.D.Desk.tape g.D.Desk.Tells (λ (xs : List Talk). AllCame read xs × (length xs ≡ c.lines.counter))
+    (process_of c.args.self.now) (process_of c.lines.self) c.args.desk.now c.lines.desk c.take_next_line.new.desk _ _
     (record {
       passed = (c.lines.invariant.2 now).passed;
       are = ((c.lines.invariant.2 now).are.0, ((c.lines.invariant.2 now).are.1, (c.lines.invariant.2 now).are.2));

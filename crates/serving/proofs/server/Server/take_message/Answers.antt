@@ -7,9 +7,9 @@ use Rattle.serving.specs.Seen.{server_of}
 use Rattle.serving.specs.Packets.{IsMessageTaken}
 use Rattle.serving.proofs.Coming.{serves_message, serves_passing_over}
 use Rattle.serving.proofs.Givings.{was_given}
-use Rattle.serving.proofs.Breaking.{on_err}
-use Rattle.serving.proofs.Stopping.{near_took}
-use Rattle.world_model.specs.Lives.{Took}
+use Rattle.serving.proofs.Ending.{ends_before, ends_took}
+use Rattle.serving.specs.Ending.{IsOfOthers}
+use Rattle.std.proofs.lemmas.Result.{err_from_is_err_and}
 use Rattle.serving.proofs.server.Server.take_message.Goals as goal
 
 pub returns-in_err-refusal-in-Ok-clause-serves : goal.returns-in_err-refusal-in-Ok-clause-serves
@@ -37,7 +37,11 @@ returns-in_ok-refusal-in-Ok-clause-taken g c =
       c.see.ensures,
     )
 
-pub returns-in_err-refusal-in-Ok-clause-near : goal.returns-in_err-refusal-in-Ok-clause-near
-returns-in_err-refusal-in-Ok-clause-near g c =
-    on_err _ (near_took g.S.Stable (life_of c.args.self.now.life) (life_of c.receive.new.self) (input.Message c.in-Ok.envelope)
-    c.receive.result c.receive.ensures)
+pub returns-in_err-refusal-in-Ok-clause-stops : goal.returns-in_err-refusal-in-Ok-clause-stops
+returns-in_err-refusal-in-Ok-clause-stops g c =
+    let p = err_from_is_err_and c.from_residual.result c.from_residual.ensures.1 in
+    rw (p.1, p.2) (ends_took g.S.Stable IsOfOthers (life_of c.args.self.now.life) (life_of c.receive.new.self)
+    (input.Message c.in-Ok.envelope) c.receive.result _ (λ result no. no) c.receive.ensures c.in_err-refusal-in-Ok.ensures)
+
+pub returns-in-Err-Memory-clause-stops : goal.returns-in-Err-Memory-clause-stops
+returns-in-Err-Memory-clause-stops g c = ends_before g.S.Stable IsOfOthers _ _ _ refl refl

@@ -6,9 +6,12 @@ use Rattle.serving.specs.Seen.{process_of, server_of}
 use Rattle.serving.proofs.Passing.{clients_read, clients_read_nothing, clients_reading_failed}
 use Rattle.serving.proofs.Hearing.{clients_reads, clients_reads_nothing, room_of}
 use Rattle.serving.proofs.Breaking.{breaks_failing, breaks_hearing, on_err}
-use Rattle.serving.proofs.Stopping.{clients_stop_at, near_more, near_same}
+use Rattle.serving.proofs.Stopping.{clients_stop_at}
 use Rattle.serving.specs.Tapes.{ReadingFailed}
-use Rattle.std.proofs.Common.{arith, refl}
+use Rattle.std.proofs.Common.{refl}
+use Rattle.serving.proofs.Ending.{ends_before}
+use Rattle.serving.specs.Ending.{IsOfOthers}
+use Rattle.std.proofs.lemmas.Result.{err_from_is_err_and}
 use Rattle.serving.proofs.server.Server.take_next_line.Goals as goal
 
 pub returns-in_err-came-clause-serves : goal.returns-in_err-came-clause-serves
@@ -61,14 +64,16 @@ returns-in_err-hear-clause-breaks g c =
 
 pub returns-in_err-came-clause-stops : goal.returns-in_err-came-clause-stops
 returns-in_err-came-clause-stops g c = λ now.
-    on_err _ (clients_stop_at g.S.Stable now g.D.Desk.tape g.D.Desk.Tells (process_of c.args.self.now) c.args.desk.now c.next.new.self _
+    let p = err_from_is_err_and c.from_residual.result c.from_residual.ensures.1 in
+    rw p.1 (clients_stop_at g.S.Stable now g.D.Desk.tape g.D.Desk.Tells (process_of c.args.self.now) c.args.desk.now c.next.new.self p.0 _
     (heard_in (lines_of c.args.self.now.waiting) c.next.result) ReadingFailed
     (ap (heard_in (lines_of c.args.self.now.waiting)) c.in_err-came.was) tt c.next.ensures.tape c.next.ensures.told
-    (near_same g.S.Stable 2 _ _ refl))
+    (ends_before g.S.Stable IsOfOthers _ _ p.0 p.2 refl))
 
 pub returns-in_err-hear-clause-stops : goal.returns-in_err-hear-clause-stops
 returns-in_err-hear-clause-stops g c = λ now.
-    on_err _ (clients_stop_at g.S.Stable now g.D.Desk.tape g.D.Desk.Tells (process_of c.args.self.now) c.args.desk.now c.next.new.self _
-    (heard_in (lines_of c.args.self.now.waiting) c.next.result) (heard c.in-Some.what)
+    let p = err_from_is_err_and c.from_residual-in_err-hear.result c.from_residual-in_err-hear.ensures.1 in
+    rw (p.1, p.2) (clients_stop_at g.S.Stable now g.D.Desk.tape g.D.Desk.Tells (process_of c.args.self.now) c.args.desk.now c.next.new.self
+    _ _ (heard_in (lines_of c.args.self.now.waiting) c.next.result) (heard c.in-Some.what)
     (ap (heard_in (lines_of c.args.self.now.waiting)) (c.in_ok-came.was ∙ ap Ok c.in-Some.is)) (what_came_was_heard c.in-Some.what)
-    c.next.ensures.tape c.next.ensures.told (near_more g.S.Stable 1 2 _ _ (omega arith) c.in_err-hear.ensures.near))
+    c.next.ensures.tape c.next.ensures.told c.in_err-hear.ensures.stops)

@@ -4,10 +4,10 @@ use Rattle.serving.specs.Seen.{process_of, server_of}
 use Rattle.serving.proofs.Arriving.{none_own, own_moves}
 use Rattle.serving.proofs.Moving.{moves_same, moves_then}
 use Rattle.serving.proofs.Leading.{serves_none, serves_then}
-use Rattle.serving.proofs.Breaking.{on_err}
-use Rattle.serving.proofs.Stopping.{near_more, stops_behind}
-use Rattle.std.proofs.Common.{arith}
-use Rattle.serving.proofs.Stopping.{near_same}
+use Rattle.serving.proofs.Stopping.{stops_behind}
+use Rattle.serving.proofs.Ending.{ends_before}
+use Rattle.serving.specs.Ending.{IsOfOthers}
+use Rattle.std.proofs.lemmas.Result.{err_from_is_err_and}
 use Rattle.serving.proofs.server.Server.take_own.Goals as goal
 
 pub own-init : goal.own-init
@@ -45,9 +45,11 @@ returns-then-not-branch-clause-own g c =
 
 pub returns-in_err-take_back-clause-stops : goal.returns-in_err-take_back-clause-stops
 returns-in_err-take_back-clause-stops g c = λ now.
-    on_err _ (stops_behind g.S.Stable now (process_of c.args.self.now) (process_of c.own.self) [] [] _ (c.own.invariant.1 now)
-    (near_more g.S.Stable 1 2 _ _ (omega arith) c.in_err-take_back.ensures.near))
+    let p = err_from_is_err_and c.from_residual.result c.from_residual.ensures.1 in
+    rw (p.1, p.2) (stops_behind g.S.Stable now (process_of c.args.self.now) (process_of c.own.self) [] [] _ _ (c.own.invariant.1 now)
+    c.in_err-take_back.ensures.stops)
 
 pub returns-clause-stops : goal.returns-clause-stops
 returns-clause-stops g c = λ now.
-    stops_behind g.S.Stable now (process_of c.args.self.now) (process_of c.own.self) [] [] _ (c.own.invariant.1 now) (near_same g.S.Stable 2 _ _ refl)
+    stops_behind g.S.Stable now (process_of c.args.self.now) (process_of c.own.self) [] [] _ _ (c.own.invariant.1 now)
+    (ends_before g.S.Stable IsOfOthers _ _ _ refl refl)

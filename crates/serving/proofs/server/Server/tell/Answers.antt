@@ -9,6 +9,7 @@ use Rattle.serving.proofs.Passing.{over_kept, over_sent, over_told}
 use Rattle.serving.proofs.Ripening.{none_ripe_same}
 use Rattle.serving.proofs.Breaking.{breaks_keeping, breaks_then, kept_answering, kept_both, kept_of_both, kept_quietly, on_err, telling_kept}
 use Rattle.serving.proofs.Stopping.{both_break_sent, both_break_still, both_break_told}
+use Rattle.std.proofs.lemmas.Result.{err_from_is_err_and}
 use Rattle.serving.proofs.server.Server.tell.Goals as goal
 
 pub returns-in_err-has_answered-clause-serves : goal.returns-in_err-has_answered-clause-serves
@@ -159,16 +160,20 @@ returns-in_err-hand_on-clause-breaks g c =
     (telling_kept g.D.Desk.tape g.D.Desk.Tells g.S.Stable c.args.now away told _ _ _ (c.in_ok-has_told.ensures.moves c.args.now held_then none_ripe))))
 
 pub returns-in_err-has_replied-clause-stops : goal.returns-in_err-has_replied-clause-stops
-returns-in_err-has_replied-clause-stops g c = on_err _ c.in_err-has_replied.ensures.stops
+returns-in_err-has_replied-clause-stops g c =
+    let p = err_from_is_err_and c.from_residual.result c.from_residual.ensures.1 in
+    rw (p.1, p.2, c.in_err-has_replied.ensures.memory) c.in_err-has_replied.ensures.stops
 
 pub returns-in_err-has_answered-clause-stops : goal.returns-in_err-has_answered-clause-stops
 returns-in_err-has_answered-clause-stops g c =
-    on_err _ (both_break_told g.S.Stable c.args.now g.N.Network.tape g.N.Network.Tells g.D.Desk.tape g.D.Desk.Tells (process_of c.args.self.now) (process_of c.let_out.new.self) _ _ _ _ _ _ _
+    let p = err_from_is_err_and c.from_residual-in_err-has_answered.result c.from_residual-in_err-has_answered.ensures.1 in
+    rw (p.1, p.2) (both_break_told g.S.Stable c.args.now g.N.Network.tape g.N.Network.Tells g.D.Desk.tape g.D.Desk.Tells (process_of c.args.self.now) (process_of c.let_out.new.self) _ _ _ _ _ _ _ _
     c.in_ok-has_replied.ensures.moves (c.in_err-has_answered.ensures.stops c.args.now c.in_ok-has_replied.ensures.held))
 
 pub returns-in_err-turn_away-clause-stops : goal.returns-in_err-turn_away-clause-stops
 returns-in_err-turn_away-clause-stops g c =
-    on_err _ (both_break_still g.S.Stable c.args.now g.N.Network.tape g.N.Network.Tells g.D.Desk.tape g.D.Desk.Tells (process_of c.args.self.now) (process_of c.tell_ripe.new.self) _ _ _ _ _ _
+    let p = err_from_is_err_and c.from_residual-in_err-turn_away.result c.from_residual-in_err-turn_away.ensures.1 in
+    rw (p.1, p.2, c.in_err-turn_away.ensures.memory) (both_break_still g.S.Stable c.args.now g.N.Network.tape g.N.Network.Tells g.D.Desk.tape g.D.Desk.Tells (process_of c.args.self.now) (process_of c.tell_ripe.new.self) _ _ _ _ _ _ _
     (both_told g.S.Stable c.args.now g.N.Network.tape g.N.Network.Tells g.D.Desk.tape g.D.Desk.Tells (process_of c.args.self.now) (process_of c.let_out.new.self) (process_of c.tell_ripe.new.self)
     _ _ _ _ _ _ _ c.in_ok-has_replied.ensures.moves (c.in_ok-has_answered.ensures.moves c.args.now c.in_ok-has_replied.ensures.held))
     (c.in_err-turn_away.ensures.stops c.args.now (c.in_ok-has_answered.ensures.held c.in_ok-has_replied.ensures.held)))
@@ -181,7 +186,8 @@ returns-in_err-has_told-clause-stops g c =
     let away = process_of c.turn_away.new.self in
     let held = c.in_ok-has_replied.ensures.held in
     let held_then = ap (λ l. (life_of l).held) c.turn_away.ensures.life ∙ c.in_ok-has_answered.ensures.held held in
-    on_err _ (both_break_told g.S.Stable c.args.now g.N.Network.tape g.N.Network.Tells g.D.Desk.tape g.D.Desk.Tells p away _ _ _ _ _ _ _
+    let x = err_from_is_err_and c.from_residual-in_err-has_told.result c.from_residual-in_err-has_told.ensures.1 in
+    rw (x.1, x.2) (both_break_told g.S.Stable c.args.now g.N.Network.tape g.N.Network.Tells g.D.Desk.tape g.D.Desk.Tells p away _ _ _ _ _ _ _ _
     (both_quiet g.S.Stable c.args.now g.N.Network.tape g.N.Network.Tells g.D.Desk.tape g.D.Desk.Tells p ripe away _ _ _ _ _
     (both_told g.S.Stable c.args.now g.N.Network.tape g.N.Network.Tells g.D.Desk.tape g.D.Desk.Tells p out ripe _ _ _ _ _ _ _
     c.in_ok-has_replied.ensures.moves (c.in_ok-has_answered.ensures.moves c.args.now held))
@@ -199,7 +205,8 @@ returns-in_err-hand_on-clause-stops g c =
     let told = process_of c.tell_due.new.self in
     let held = c.in_ok-has_replied.ensures.held in
     let held_then = ap (λ l. (life_of l).held) c.turn_away.ensures.life ∙ c.in_ok-has_answered.ensures.held held in
-    on_err _ (both_break_sent g.S.Stable c.args.now g.N.Network.tape g.N.Network.Tells g.D.Desk.tape g.D.Desk.Tells p told _ _ _ _ _ _ _
+    let x = err_from_is_err_and c.from_residual-in_err-hand_on.result c.from_residual-in_err-hand_on.ensures.1 in
+    rw (x.1, x.2, c.in_err-hand_on.ensures.memory) (both_break_sent g.S.Stable c.args.now g.N.Network.tape g.N.Network.Tells g.D.Desk.tape g.D.Desk.Tells p told _ _ _ _ _ _ _
     (both_told g.S.Stable c.args.now g.N.Network.tape g.N.Network.Tells g.D.Desk.tape g.D.Desk.Tells p away told _ _ _ _ _ _ _
     (both_quiet g.S.Stable c.args.now g.N.Network.tape g.N.Network.Tells g.D.Desk.tape g.D.Desk.Tells p ripe away _ _ _ _ _
     (both_told g.S.Stable c.args.now g.N.Network.tape g.N.Network.Tells g.D.Desk.tape g.D.Desk.Tells p out ripe _ _ _ _ _ _ _

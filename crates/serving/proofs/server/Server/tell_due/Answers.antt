@@ -4,6 +4,7 @@ use Rattle.serving.proofs.Moving.{clients_none_told, clients_told_then}
 use Rattle.serving.proofs.Passing.{clients_none, clients_then}
 use Rattle.serving.proofs.Breaking.{breaks_then, breaks_untold, on_err, telling_kept}
 use Rattle.serving.proofs.Stopping.{clients_break}
+use Rattle.std.proofs.lemmas.Result.{err_from_is_err_and}
 use Rattle.serving.proofs.server.Server.tell_due.Goals as goal
 
 pub due-init : goal.due-init
@@ -49,5 +50,6 @@ returns-in_err-was_told-clause-breaks g c = λ held ripe.
 
 pub returns-in_err-was_told-clause-stops : goal.returns-in_err-was_told-clause-stops
 returns-in_err-was_told-clause-stops g c = λ now held ripe.
-    on_err _ (clients_break g.S.Stable now g.D.Desk.tape g.D.Desk.Tells (process_of c.args.self.now) (process_of c.due.self) _ _ _ c.due.has_told _
-    (c.due.invariant.5 now held ripe) c.in_err-was_told.ensures.breaks c.in_err-was_told.ensures.near)
+    let p = err_from_is_err_and c.from_residual.result c.from_residual.ensures.1 in
+    rw (p.1, p.2) (clients_break g.S.Stable now g.D.Desk.tape g.D.Desk.Tells (process_of c.args.self.now) (process_of c.due.self)
+    _ _ _ c.due.has_told _ _ (c.due.invariant.5 now held ripe) c.in_err-was_told.ensures.breaks c.in_err-was_told.ensures.stops)

@@ -1,6 +1,6 @@
 use Rattle.serving.specs.Seen.{process_of, server_of}
 use Rattle.serving.proofs.Answering.{clients_due, clients_line, clients_still}
-use Rattle.std.proofs.Common.{[], ◌∷◌, ap, ◌∙◌, ℕ, List, length, arith}
+use Rattle.std.proofs.Common.{[], ◌∷◌, ap, refl, ◌∙◌, ℕ, List, length, arith}
 use Rattle.serving.specs.declared.waiting.Due.{Due}
 use Rattle.serving.specs.Waitings.{WaitingState}
 use Rattle.life.specs.Seen.{life_of}
@@ -8,6 +8,9 @@ use Rattle.serving.proofs.MovesOut.{asked_holds_nothing, asked_keeps_own, passes
 use Rattle.serving.specs.Tapes.{Told, told_in}
 use Rattle.serving.proofs.Passing.{passes_as}
 use Rattle.serving.proofs.Breaking.{on_err}
+use Rattle.serving.proofs.Ending.{ends_before}
+use Rattle.serving.specs.Ending.{IsAsked}
+use Rattle.std.proofs.lemmas.Result.{err_from_is_err_and}
 use Rattle.serving.proofs.server.Server.tell_next_due.Goals as goal
 
 pub returns-in_default-clause-serves : goal.returns-in_default-clause-serves
@@ -85,3 +88,13 @@ returns-in_err-tell-in-Line-clause-breaks g c =
     on_err _ (
     passes_as g.D.Desk.tape g.D.Desk.Tells c.args.desk.now c.tell.new.self (told_in c.in-Line.connection c.as_slice.result.now c.tell.result) []
     c.tell.ensures.tape c.tell.ensures.told (ap (told_in c.in-Line.connection c.as_slice.result.now) c.in_err-tell-in-Line.was))
+
+pub returns-in_err-tell-in-Line-clause-stops : goal.returns-in_err-tell-in-Line-clause-stops
+returns-in_err-tell-in-Line-clause-stops g c =
+    let p = err_from_is_err_and c.from_residual.result c.from_residual.ensures.1 in
+    rw p.1 (ends_before g.S.Stable IsAsked _ _ p.0 p.2 refl)
+
+pub returns-in_err-was_told-in-Answer-clause-stops : goal.returns-in_err-was_told-in-Answer-clause-stops
+returns-in_err-was_told-in-Answer-clause-stops g c =
+    let p = err_from_is_err_and c.from_residual-in_err-was_told-in-Answer.result c.from_residual-in_err-was_told-in-Answer.ensures.1 in
+    rw (p.1, p.2) c.in_err-was_told-in-Answer.ensures.stops

@@ -5,6 +5,7 @@ use Rattle.serving.specs.Waitings.{WaitingState}
 use Rattle.serving.proofs.Ripening.{none_ripe_at, none_ripe_same, one_less}
 use Rattle.life.specs.Seen.{life_of}
 use Rattle.serving.proofs.MovesOut.{answer_holds_nothing, answer_keeps_own, passes_ripe, passes_still}
+use Rattle.std.proofs.lemmas.Result.{err_from_is_err_and}
 use Rattle.serving.proofs.server.Server.tell_next_ripe.Goals as goal
 
 pub returns-in_default-clause-serves : goal.returns-in_default-clause-serves
@@ -64,3 +65,8 @@ returns-clause-own g c =
     answer_keeps_own g.S.Stable g.D.Desk.tape g.D.Desk.Tells (life_of c.args.self.now.life) (life_of c.answer.new.self.life)
     c.in-Some.question c.args.desk.now c.answer.new.desk
     (c.in_ok-answer.ensures.answers c.position-position.result c.position-position.ensures c.in-Some.ensures.first.ripe).1
+
+pub returns-in_err-answer-clause-stops : goal.returns-in_err-answer-clause-stops
+returns-in_err-answer-clause-stops g c =
+    let p = err_from_is_err_and c.from_residual.result c.from_residual.ensures.1 in
+    rw (p.1, p.2) c.in_err-answer.ensures.stops

@@ -6,6 +6,7 @@ use Rattle.serving.proofs.Passing.{clients_none, clients_then}
 use Rattle.serving.proofs.Ripening.{none_ripe_left}
 use Rattle.serving.proofs.Breaking.{breaks_then, breaks_untold, on_err, telling_kept}
 use Rattle.serving.proofs.Stopping.{clients_break}
+use Rattle.std.proofs.lemmas.Result.{err_from_is_err_and}
 use Rattle.serving.proofs.server.Server.tell_ripe.Goals as goal
 
 pub questions-init : goal.questions-init
@@ -72,5 +73,7 @@ returns-in_err-tell_next_ripe-clause-breaks g c = λ held.
 
 pub returns-in_err-tell_next_ripe-clause-stops : goal.returns-in_err-tell_next_ripe-clause-stops
 returns-in_err-tell_next_ripe-clause-stops g c = λ now held.
-    on_err _ (clients_break g.S.Stable now g.D.Desk.tape g.D.Desk.Tells (process_of c.args.self.now) (process_of c.questions.self) _ _ _ c.questions.has_told _
-    (c.questions.invariant.3 now held) c.in_err-tell_next_ripe.ensures.breaks c.in_err-tell_next_ripe.ensures.near)
+    let p = err_from_is_err_and c.from_residual.result c.from_residual.ensures.1 in
+    rw (p.1, p.2) (clients_break g.S.Stable now g.D.Desk.tape g.D.Desk.Tells (process_of c.args.self.now) (process_of c.questions.self)
+    _ _ _ c.questions.has_told _ _ (c.questions.invariant.3 now held) c.in_err-tell_next_ripe.ensures.breaks
+    c.in_err-tell_next_ripe.ensures.stops)

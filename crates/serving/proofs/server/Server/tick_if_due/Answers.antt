@@ -2,7 +2,7 @@ use Rattle.std.proofs.Common.{IsTrue, ap, inl, inr, refl, ◌∙◌}
 use Rattle.serving.specs.Processes.{ProcessState}
 use Rattle.serving.specs.Seen.{server_of}
 use Rattle.serving.proofs.Keeping.{never_so}
-use Rattle.serving.proofs.Packets.{on_ok_so}
+use Rattle.serving.proofs.Packets.{on_fault_so, on_ok_so}
 use Rattle.serving.proofs.Leading.{serves_none}
 use Rattle.serving.proofs.server.Server.tick_if_due.Goals as goal
 
@@ -24,3 +24,7 @@ returns-clause-ticks g c =
       ap (λ (p : ProcessState _). p.timing) c.give.ensures.others ∙ c.tick.ensures.ticks c.if-not-tick.false,
     ))
     c.give.ensures.gives
+
+pub returns-clause-stops : goal.returns-clause-stops
+returns-clause-stops g c =
+    on_fault_so c.give.result (λ fault ends. (c.tick.ensures.due.0 c.if-not-tick.false, ends)) c.give.ensures.stops

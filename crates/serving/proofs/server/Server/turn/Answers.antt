@@ -7,6 +7,7 @@ use Rattle.serving.proofs.Passing.{over_then}
 use Rattle.std.proofs.Common.{◌∙◌, ◌||◌}
 use Rattle.serving.proofs.Breaking.{breaks_over, breaks_then, kept_of_all, on_err}
 use Rattle.serving.proofs.Stopping.{both_stop_telling}
+use Rattle.std.proofs.lemmas.Result.{err_from_is_err_and}
 use Rattle.serving.proofs.server.Server.turn.Goals as goal
 
 pub returns-in_err-has_told-clause-serves : goal.returns-in_err-has_told-clause-serves
@@ -94,9 +95,12 @@ returns-in_err-has_told-clause-breaks g c =
     c.in_err-has_told.ensures.breaks))
 
 pub returns-in_err-more_came-clause-stops : goal.returns-in_err-more_came-clause-stops
-returns-in_err-more_came-clause-stops g c = on_err _ c.in_err-more_came.ensures.stops
+returns-in_err-more_came-clause-stops g c =
+    let p = err_from_is_err_and c.from_residual.result c.from_residual.ensures.1 in
+    rw (p.1, p.2) c.in_err-more_came.ensures.stops
 
 pub returns-in_err-has_told-clause-stops : goal.returns-in_err-has_told-clause-stops
 returns-in_err-has_told-clause-stops g c =
-    on_err _ (both_stop_telling g.S.Stable c.args.now g.N.Network.tape g.N.Network.Tells g.D.Desk.tape g.D.Desk.Tells (process_of c.args.self.now) (process_of c.take.new.self) _ _ _ _ _ _ _ _
+    let p = err_from_is_err_and c.from_residual-in_err-has_told.result c.from_residual-in_err-has_told.ensures.1 in
+    rw (p.1, p.2) (both_stop_telling g.S.Stable c.args.now g.N.Network.tape g.N.Network.Tells g.D.Desk.tape g.D.Desk.Tells (process_of c.args.self.now) (process_of c.take.new.self) _ _ _ _ _ _ _ _ _
     c.in_ok-more_came.ensures.takes c.in_err-has_told.ensures.stops)

@@ -8,7 +8,9 @@ use Rattle.serving.proofs.Ripening.{full_at, not_full_below, nothing_left, serve
 use Rattle.serving.proofs.Moving.{moves_same, moves_then}
 use Rattle.serving.proofs.MovesOut.{moves_clearing}
 use Rattle.serving.proofs.Breaking.{on_err}
-use Rattle.serving.proofs.Stopping.{breaks_moved, near_same}
+use Rattle.serving.proofs.Ending.{ends_before}
+use Rattle.serving.proofs.Stopping.{breaks_moved}
+use Rattle.serving.specs.Ending.{IsAsked}
 use Rattle.serving.proofs.server.Server.turn_away.Goals as goal
 
 pub returns-then-position-lt-SLOTS-clause-serves : goal.returns-then-position-lt-SLOTS-clause-serves
@@ -73,5 +75,5 @@ returns-clause-moves g c = λ now held.
 
 pub returns-in_err-turn_away_next-clause-stops : goal.returns-in_err-turn_away_next-clause-stops
 returns-in_err-turn_away_next-clause-stops g c = λ now held.
-    on_err _ (breaks_moved g.S.Stable now (process_of c.args.self.now) (process_of c.claims.self) _ (c.claims.invariant.4 now held)
-    (near_same g.S.Stable 1 _ _ (ap (λ l. (life_of l).node) c.turn_away_next.ensures.life)))
+    on_err _ (breaks_moved g.S.Stable now (process_of c.args.self.now) (process_of c.claims.self) _ _ (c.claims.invariant.4 now held)
+    (ends_before g.S.Stable IsAsked _ _ _ refl (ap (λ l. (life_of l).node) c.turn_away_next.ensures.life)))
