@@ -88,3 +88,8 @@ pub not_told : (m : Manner) (l : Ledger) (texts : List (List ℕ)) (place : Plac
 not_told m l texts place e k text is by_number =
     subst (λ (x : Entry). AddsLines text (entry_lines m l texts place x) text) (sym is)
     (if_not m.frames (item_lines m.form place.line (happening_at l place (Frame k))) text by_number)
+
+-- ---- a step begins
+pub step_not_told : (m : Manner) (l : Ledger) (texts : List (List ℕ)) (place : Place) (e : Entry) (k : ℕ) (text : List ℕ) → e ≡ AStep k
+    → AddsLines text (entry_lines m l texts place e) text
+step_not_told m l texts place e k text is = subst (λ (x : Entry). AddsLines text (entry_lines m l texts place x) text) (sym is) none

@@ -1,12 +1,10 @@
 -- A round begins at a frame that is there, since none is lost in it, and its own step made all from that one on.
-use Rattle.std.proofs.Common.{◌≡◌, ◌≤◌, length, ap, sym, arith}
+use Rattle.std.proofs.Common.{◌≡◌, ◌≤◌, length, ap, arith}
 use Rattle.stable.specs.Memory.{in_memory}
 use Rattle.stable.specs.Storages.{scripted}
 use Rattle.world.specs.Seen.{world_of}
 use Rattle.schedule.specs.declared.action.Action.TheVariants.{Round}
-use Rattle.story.specs.Counted.{counts_before}
-use Rattle.story.proofs.NotingLemmas.{line_grows, round_noted}
-use Rattle.story.proofs.SendingLemmas.{round_made}
+use Rattle.story.proofs.NotingLemmas.{line_grows}
 use Rattle.story.proofs.ledger.Ledger.do_round.Goals as goal
 
 pub part_round-requires-clause-within : goal.part_round-requires-clause-within

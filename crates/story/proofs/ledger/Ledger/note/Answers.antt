@@ -1,11 +1,9 @@
 -- The step that is noted counts all that is there.
-use Rattle.std.proofs.Common.{◌≡◌, ◌∙◌, sym, ap, subst}
-use Rattle.world.specs.Seen.{world_of}
+use Rattle.std.proofs.Common.{sym, ap, subst}
 use Rattle.story.specs.declared.ledger.Counts.{Counts}
-use Rattle.story.specs.declared.ledger.Step.{Step}
 use Rattle.story.specs.Counted.{AreWithin}
-use Rattle.story.specs.Ledgers.{counted, counts_of}
-use Rattle.story.proofs.LedgerLemmas.{ends_noted, equal_within}
+use Rattle.story.specs.Ledgers.{counted}
+use Rattle.story.proofs.LedgerLemmas.{equal_within}
 use Rattle.story.proofs.ledger.Ledger.note.Goals as goal
 
 pub push_step-requires-clause-more : goal.push_step-requires-clause-more

@@ -1,17 +1,10 @@
--- Whatever a line does, no list gets shorter, and no frame waits again. A frame that it delivers was sent.
-use Rattle.std.proofs.Common.{length, sym, subst}
-use Rattle.stable.specs.Memory.{in_memory}
-use Rattle.stable.specs.Storages.{scripted}
-use Rattle.world.specs.Seen.{world_of}
-use Rattle.story.specs.declared.deeds.Deed.{Deed}
+-- Whatever a line does, no list gets shorter, and no frame waits again.
 use Rattle.story.specs.Ledgers.{counted}
-use Rattle.story.specs.Passing.{DeliversOneOf}
 use Rattle.story.proofs.Growing.{done_has, done_searched, done_sent, refused_has, refused_searched, refused_sent}
-use Rattle.story.proofs.NotingLemmas.{was_sent}
-use Rattle.story.proofs.ledger.Ledger.take.Goals as goal
+use Rattle.story.proofs.ledger.Ledger.do_action.Goals as goal
 
-pub note-requires-clause-kept : goal.note-requires-clause-kept
-note-requires-clause-kept c = record {
+pub returns-in-Ok-clause-kept : goal.returns-in-Ok-clause-kept
+returns-in-Ok-clause-kept c = record {
   lines = c.requires.kept.lines;
   counts = c.requires.kept.counts;
   within = done_has (counted c.args.self.now) _ c.args.action _ _ c.in-Ok.ensures.done c.requires.kept.within;
@@ -20,11 +13,6 @@ note-requires-clause-kept c = record {
   sent = done_sent c.args.self.now.steps.items c.args.self.now.passages.items _ c.args.action _ _ c.in-Ok.ensures.done c.requires.kept.sent;
   searched = done_searched c.args.self.now.lowest _ c.args.action _ _ c.in-Ok.ensures.done c.requires.kept.searched;
 }
-
-pub note-requires-clause-sent : goal.note-requires-clause-sent
-note-requires-clause-sent c =
-    subst (λ (d : Deed). DeliversOneOf d (length (world_of c.do_line.new.world).frames)) (sym c.deed_of-deed.ensures)
-    (was_sent (scripted in_memory) c.args.action _ _ c.in-Ok.ensures.done)
 
 pub returns-in-Err-clause-kept : goal.returns-in-Err-clause-kept
 returns-in-Err-clause-kept c =
