@@ -10,7 +10,7 @@ ghost use Rattle.serving.specs.Turns.{IsAnswerToOwn, IsReplyToOwn, Past};
 use crate::checkpoints::SLOTS_BETWEEN_CHECKPOINTS;
 use crate::claims::MOST_CLAIMS;
 use crate::hand_on::HAND_ON_PERIOD;
-use crate::patience::LEAST_PATIENCE;
+use crate::patience::{LEAST_PATIENCE, NODE_STEP, SPREADS};
 use crate::server::MOST_IN_A_TURN;
 use crate::ticks::{BUSY_PERIOD, IDLE_PERIOD};
 use stable::Stable;
@@ -38,12 +38,13 @@ pub fn clients_are_told_the_same<S: Stable>()
 
 /// A turn takes something and not too much, and connections may wait. A checkpoint comes long before the log is full. A node that wants
 /// anything ticks before it hands on a request again, and that before any node is impatient. The least patience and an idle node's period
-/// are a second at most.
+/// are a second at most. Each node has a patience of its own, of which a part is drawn.
 pub fn limits_are_in_order()
     ensures turns { (0 < MOST_IN_A_TURN) × (MOST_IN_A_TURN ≤ 1024) }
     ensures claims { (0 < MOST_CLAIMS) × (MOST_CLAIMS ≤ 64) }
-    ensures checkpoints { (SLOTS_BETWEEN_CHECKPOINTS < SLOTS) × (SLOTS_BETWEEN_CHECKPOINTS ≤ 4096) }
-    ensures ticks { (BUSY_PERIOD ≤ IDLE_PERIOD) × (IDLE_PERIOD ≤ 1000) }
+    ensures checkpoints { (256 ≤ SLOTS_BETWEEN_CHECKPOINTS) × (SLOTS_BETWEEN_CHECKPOINTS ≤ 4096) × (SLOTS_BETWEEN_CHECKPOINTS < SLOTS) }
+    ensures ticks { (0 < BUSY_PERIOD) × (BUSY_PERIOD ≤ IDLE_PERIOD) × (IDLE_PERIOD ≤ 1000) }
     ensures hands_on { BUSY_PERIOD ≤ HAND_ON_PERIOD }
     ensures patience { (HAND_ON_PERIOD ≤ LEAST_PATIENCE) × (LEAST_PATIENCE ≤ 1000) }
+    ensures spread { (0 < NODE_STEP) × (1 < SPREADS) }
 {}
