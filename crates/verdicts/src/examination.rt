@@ -82,6 +82,7 @@ pub(crate) fn examine_lines(
 /// Whether nothing more is to be looked at, from this line on.
 fn is_enough(is_undecided: bool, at: usize, latest: Option<Contradiction>) -> bool
     ensures undecided { IsTrue result → IsTrue is_undecided }
+    ensures later { IsTrue result → IsLater at latest }
     ensures more { result ≡ false → IsLater at latest → is_undecided ≡ false }
 {
     is_later(at, latest) && is_undecided
