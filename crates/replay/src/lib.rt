@@ -6,7 +6,7 @@
 //! `specs/ClusterRuns.antt` one over a cluster, `specs/Transcripts.antt` the bytes of a transcript.
 //!
 //! `world_transcript` makes the transcript of a world as one text, and `print_transcript` hands it to a `Sink` in parts, with no more
-//! memory than the first part has room for.
+//! memory than the first part has room for. Who does a run's lines itself may tell a `Watch` how far it is.
 #![tactic(auto)]
 
 mod cluster_run;
@@ -16,12 +16,14 @@ mod print;
 mod replayed;
 mod report;
 mod sink;
+mod watch;
 mod world_run;
 
 pub use cluster_run::run_through;
 pub use replayed::Replayed;
 pub use report::transcript;
 pub use sink::Sink;
+pub use watch::{Unwatched, Watch};
 pub use world_run::{
     do_line, do_lines, print_transcript, replay_text, run, run_lines, start_world, world_transcript,
 };
