@@ -24,7 +24,8 @@ pub(crate) fn show_map(
     let at = instant_of(at)?;
     let node = node_of(node)?;
     let bytes = read_file(rt, file, progress)?;
-    match map(rt.alloc(), bytes.as_slice(), at, node) {
+    let watch = &mut progress.watch(rt);
+    match map(rt.alloc(), bytes.as_slice(), at, node, watch) {
         Ok(drawn) => {
             let text = drawn.text.as_slice();
             progress.tell_done(rt, text.len());

@@ -19,7 +19,13 @@ pub(crate) fn show_run(
 ) -> Result<u8, Failure> {
     let bytes = read_file(rt, file, progress)?;
     let form = if json { Form::Json } else { Form::Words };
-    let told = tell(rt.alloc(), bytes.as_slice(), form, frames);
+    let told = tell(
+        rt.alloc(),
+        bytes.as_slice(),
+        form,
+        frames,
+        &mut progress.watch(rt),
+    );
     write_account(rt, file, "-", bytes.as_slice(), told, progress)
 }
 
@@ -35,7 +41,13 @@ pub(crate) fn show_drawing(
     let from = frame_of(from)?;
     let to = frame_of(to)?;
     let bytes = read_file(rt, file, progress)?;
-    let drawn = draw(rt.alloc(), bytes.as_slice(), from, to);
+    let drawn = draw(
+        rt.alloc(),
+        bytes.as_slice(),
+        from,
+        to,
+        &mut progress.watch(rt),
+    );
     write_account(rt, file, output, bytes.as_slice(), drawn, progress)
 }
 

@@ -10,6 +10,7 @@ use crate::fault::MapFault;
 use crate::survey::{Survey, survey_run};
 use fleetmap::draw_fleet;
 use mfjson::datetime_text;
+use replay::Watch;
 use schedule::ReplayFault;
 use stable::{MemStable, Scripted, Stable};
 use std::alloc::{AllocError, Global};
@@ -27,14 +28,21 @@ pub struct FleetMap {
 }
 
 /// The map of the fleet as the node of this number has it where the run ends that the bytes spell: at its last line, or at the first that
-/// can't be done, which the picture names then. It shows the instant `at`, or the last of any feature.
-pub fn map(alloc: Global, bytes: &[u8], at: Option<Instant>, node: u8) -> Result<FleetMap, MapFault>
+/// can't be done, which the picture names then. It shows the instant `at`, or the last of any feature. The watch is told of each line
+/// that is done.
+pub fn map<W: Watch>(
+    alloc: Global,
+    bytes: &[u8],
+    at: Option<Instant>,
+    node: u8,
+    watch: &mut W,
+) -> Result<FleetMap, MapFault>
     ensures fleet { IfOk result (λ drawn.
         HasFleet (⟦<Scripted<MemStable> as Stable>⟧) bytes.now node drawn.end) }
     ensures map { IfOk result (IsMap (⟦<Scripted<MemStable> as Stable>⟧) bytes.now at node) }
     ensures fault { IfErr result (IsMapFault (⟦<Scripted<MemStable> as Stable>⟧) bytes.now node) }
 {
-    let survey = match survey_run(alloc, bytes) {
+    let survey = match survey_run(alloc, bytes, watch) {
         Ok(survey) => survey,
         Err(fault) => return Err(MapFault::Schedule(fault)),
     };

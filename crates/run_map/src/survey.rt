@@ -8,7 +8,7 @@ ghost use Rattle.run_map.specs.Endings.{EndsBy, IsRunOf, LineEndsBy};
 
 use events::{Event, WorldFault};
 use fleetmap::Asked;
-use replay::{do_line, start_world};
+use replay::{Watch, do_line, start_world};
 use schedule::{Action, ReplayCause, ReplayFault, ScheduleLine, parse_schedule};
 use stable::{MemStable, Scripted, Stable};
 use std::alloc::{AllocError, Global};
@@ -26,10 +26,15 @@ pub struct Survey {
     pub end: Option<ReplayFault>,
 }
 
-/// The run that the bytes spell, over records in memory, to its last line or to the first that can't be done.
+/// The run that the bytes spell, over records in memory, to its last line or to the first that can't be done. The watch is told of each line
+/// that is done.
 ///
 /// An error is the first faulty line, before which nothing is done; or `Memory`, told at the line that was reached.
-pub fn survey_run(alloc: Global, bytes: &[u8]) -> Result<Survey, ReplayFault>
+pub fn survey_run<W: Watch>(
+    alloc: Global,
+    bytes: &[u8],
+    watch: &mut W,
+) -> Result<Survey, ReplayFault>
     ensures run { IfOk result (λ survey.
         IsRunOf (⟦<Scripted<MemStable> as Stable>⟧) bytes.now survey.nodes survey.end (world_of survey.world)) }
     ensures fault { IfErr result (λ fault. IsParseRefusal bytes.now fault ⊎ (fault.cause ≡ memory)) }
@@ -45,7 +50,7 @@ pub fn survey_run(alloc: Global, bytes: &[u8]) -> Result<Survey, ReplayFault>
         return Err(memory_at(first));
     };
     let mut asked = Vec::new(alloc);
-    let end = survey_lines(alloc, &mut world, &mut asked, schedule.into_lines())?;
+    let end = survey_lines(alloc, &mut world, &mut asked, schedule.into_lines(), watch)?;
     Ok(Survey {
         nodes,
         world,
@@ -55,21 +60,23 @@ pub fn survey_run(alloc: Global, bytes: &[u8]) -> Result<Survey, ReplayFault>
 }
 
 /// Does the lines in order, up to the first that can't be done, whose fault is told; and gathers what was asked.
-fn survey_lines(
+fn survey_lines<W: Watch>(
     alloc: Global,
     world: &mut World<MemStable>,
     asked: &mut Vec<Asked>,
     lines: Vec<ScheduleLine>,
+    watch: &mut W,
 ) -> Result<Option<ReplayFault>, ReplayFault>
     ensures ends { IfOk result (λ end. EndsBy (⟦<Scripted<MemStable> as Stable>⟧) lines.items
         (world_of world.old) end (world_of world.new)) }
     ensures memory { IfErr result (λ fault. fault.cause ≡ memory) }
 {
     for line in lines {
+        let number = line.number;
         let stopped = survey_line(alloc, world, asked, line)?;
         match stopped {
             Some(fault) => return Ok(Some(fault)),
-            None => {}
+            None => watch.line_done(number, world.frames().len()),
         }
     }
     Ok(None)

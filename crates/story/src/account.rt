@@ -16,6 +16,7 @@ use super::line_texts::{split_lines, text_of};
 use super::ranges::list_ranges;
 use super::writer::{Form, tell_count, tell_fault, tell_item, tell_line};
 use events::WorldFault;
+use replay::Watch;
 use schedule::ReplayFault;
 use stable::{MemStable, Scripted, Stable};
 use std::alloc::Global;
@@ -29,16 +30,22 @@ pub struct Account {
 }
 
 /// What came of each line of the schedule that the bytes spell, up to the line that ends the run. Each frame is told where `frames` says
-/// so; else how many were sent.
+/// so; else how many were sent. The watch is told of each line that is done.
 ///
 /// An error is the first faulty line, or out of memory.
-pub fn tell(alloc: Global, bytes: &[u8], form: Form, frames: bool) -> Result<Account, ReplayFault>
+pub fn tell<W: Watch>(
+    alloc: Global,
+    bytes: &[u8],
+    form: Form,
+    frames: bool,
+    watch: &mut W,
+) -> Result<Account, ReplayFault>
     ensures told { IfOk result (λ account. (ledger : ALedger)
         × IsRunOf (⟦<Scripted<MemStable> as Stable>⟧) bytes.now ledger.lines.items ledger.steps.items ledger.fault (world_of ledger.world)
         × IsAccountOf bytes.now ledger (record { form = form; frames = frames }) account) }
     ensures untold { IfErr result (IsUntold bytes.now) }
 {
-    let ledger = follow(alloc, bytes)?;
+    let ledger = follow(alloc, bytes, watch)?;
     let fault = ledger.fault;
     match tell_run(alloc, bytes, &ledger, Manner { form, frames }) {
         Ok(text) => Ok(Account { text, fault }),

@@ -11,17 +11,17 @@ ghost use Rattle.world.specs.Seen.{world_of};
 use super::deeds::{Deed, deed_of};
 use super::ledger::{Ledger, begin, ends_at};
 use events::{Event, WorldFault};
-use replay::do_line;
+use replay::{Watch, do_line};
 use schedule::{Action, Members, ReplayFault, ScheduleLine, parse_schedule};
 use stable::{MemStable, Scripted, Stable};
 use std::alloc::Global;
 use wire::NodeId;
 use world::MOST_DELIVERIES;
 
-/// The run that the bytes spell, over records in memory, to its end or to the line that ends it.
+/// The run that the bytes spell, over records in memory, to its end or to the line that ends it. The watch is told of each line that is done.
 ///
 /// An error is the first faulty line, or out of memory before the first step.
-pub fn follow(alloc: Global, bytes: &[u8]) -> Result<Ledger, ReplayFault>
+pub fn follow<W: Watch>(alloc: Global, bytes: &[u8], watch: &mut W) -> Result<Ledger, ReplayFault>
     ensures complete { IfOk result IsComplete }
     ensures run { IfOk result (λ ledger. IsRunOf (⟦<Scripted<MemStable> as Stable>⟧)
         bytes.now ledger.lines.items ledger.steps.items ledger.fault (world_of ledger.world)) }
@@ -31,14 +31,19 @@ pub fn follow(alloc: Global, bytes: &[u8]) -> Result<Ledger, ReplayFault>
     let (first, last) = (schedule.first(), schedule.last());
     let mut ledger = begin(alloc, first, schedule.nodes())?;
     ledger.begin_line(first)?;
-    ledger.do_lines(alloc, schedule.into_lines())?;
+    ledger.do_lines(alloc, schedule.into_lines(), watch)?;
     ledger.note(last, Deed::Ended)?;
     Ok(ledger)
 }
 
 impl Ledger {
     /// Does the lines in order, up to the first that can't be done.
-    fn do_lines(&mut self, alloc: Global, lines: Vec<ScheduleLine>) -> Result<(), ReplayFault>
+    fn do_lines<W: Watch>(
+        &mut self,
+        alloc: Global,
+        lines: Vec<ScheduleLine>,
+        watch: &mut W,
+    ) -> Result<(), ReplayFault>
         requires kept { IsKept self.old }
         requires goes_on { self.old.fault ≡ None }
         ensures kept { OnOk result (IsKept self.new) }
@@ -48,11 +53,12 @@ impl Ledger {
         ensures memory { IfErr result (λ fault. fault.cause ≡ memory) }
     {
         for line in lines {
-            self.begin_line(line.number)?;
+            let number = line.number;
+            self.begin_line(number)?;
             self.do_line(alloc, line)?;
             match self.fault {
                 Some(_) => return Ok(()),
-                None => {}
+                None => watch.line_done(number, self.world.frames().len()),
             }
         }
         Ok(())

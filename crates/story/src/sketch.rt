@@ -15,27 +15,30 @@ use super::line_texts::{split_lines, text_of};
 use super::marks::mark_run;
 use diagram::{Label, Scene};
 use events::WorldFault;
+use replay::Watch;
 use schedule::ReplayFault;
 use stable::{MemStable, Scripted, Stable};
 use std::alloc::Global;
 use std::io;
 
 /// The space-time diagram of the run that the bytes spell, as SVG, up to the line that ends it: of the frames from number `from`, or the
-/// first, to number `to`, or the last; of more than a picture shows, of the first ones, which it names.
+/// first, to number `to`, or the last; of more than a picture shows, of the first ones, which it names. The watch is told of each line that is
+/// done.
 ///
 /// An error is the first faulty line, or out of memory.
-pub fn draw(
+pub fn draw<W: Watch>(
     alloc: Global,
     bytes: &[u8],
     from: Option<usize>,
     to: Option<usize>,
+    watch: &mut W,
 ) -> Result<Account, ReplayFault>
     ensures run { IfOk result (λ account. (ledger : ALedger)
         × IsRunOf (⟦<Scripted<MemStable> as Stable>⟧) bytes.now ledger.lines.items ledger.steps.items ledger.fault (world_of ledger.world)
         × IsSketchOf bytes.now ledger from to account) }
     ensures untold { IfErr result (IsUntold bytes.now) }
 {
-    let ledger = follow(alloc, bytes)?;
+    let ledger = follow(alloc, bytes, watch)?;
     let fault = ledger.fault;
     match draw_ledger(alloc, bytes, &ledger, from, to) {
         Ok(text) => Ok(Account { text, fault }),

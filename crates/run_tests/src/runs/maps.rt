@@ -1,5 +1,6 @@
 //! Maps of the fleet that a run leaves at a node.
 
+use replay::Unwatched;
 use run_map::{MapFault, map};
 use std::str;
 use std::test::Fail;
@@ -22,7 +23,9 @@ deliver 9999
 fn draws_what_a_node_has(rt: HostRuntime) -> Result<(), Fail> {
     let alloc = rt.alloc();
     let t = Instant::new(1_577_836_801_000).ok_or("an instant")?;
-    let drawn = map(alloc, SCHEDULE, Some(t), 0).ok().ok_or("a map")?;
+    let drawn = map(alloc, SCHEDULE, Some(t), 0, &mut Unwatched)
+        .ok()
+        .ok_or("a map")?;
     let text = str::from_utf8(&drawn.text).unwrap_or("");
     assert!(rt; text.contains("The fleet at 2020-01-01T00:00:01.000Z, as node 0 has it"));
     assert!(rt; text.contains("ended at line 9: no frame of this number was sent."));
@@ -36,11 +39,11 @@ fn draws_what_a_node_has(rt: HostRuntime) -> Result<(), Fail> {
 #[test]
 fn tells_why_there_is_no_map(rt: HostRuntime) -> Result<(), Fail> {
     let alloc = rt.alloc();
-    let down = map(alloc, SCHEDULE, None, 2).err();
+    let down = map(alloc, SCHEDULE, None, 2, &mut Unwatched).err();
     assert_eq!(rt; down, Some(MapFault::Down(2)));
-    let missing = map(alloc, SCHEDULE, None, 3).err();
+    let missing = map(alloc, SCHEDULE, None, 3, &mut Unwatched).err();
     assert_eq!(rt; missing, Some(MapFault::NoSuchNode(3)));
-    let faulty = map(alloc, b"nodes 4", None, 0).err();
+    let faulty = map(alloc, b"nodes 4", None, 0, &mut Unwatched).err();
     assert!(rt; matches!(faulty, Some(MapFault::Schedule(_))));
     Ok(())
 }

@@ -1,5 +1,7 @@
 //! Runs for people: in words, as JSON, as pictures, and what they are made of.
 
+use replay::{Unwatched, Watch};
+use run_map::map;
 use std::alloc::Global;
 use std::str;
 use std::test::Fail;
@@ -63,8 +65,19 @@ round 0 0 1
 deliver 1000
 ";
 
+// Of each line that is done, its number and how many frames there are.
+struct Noted {
+    lines: Vec<(u64, usize)>,
+}
+
+impl Watch for Noted {
+    fn line_done(&mut self, line: u64, frames: usize) {
+        let _ = self.lines.push((line, frames));
+    }
+}
+
 fn text_of(alloc: Global, bytes: &[u8], form: Form, frames: bool) -> Result<String, Fail> {
-    let account = tell(alloc, bytes, form, frames)?;
+    let account = tell(alloc, bytes, form, frames, &mut Unwatched)?;
     Ok(String::from_utf8(account.text)?)
 }
 
@@ -125,7 +138,7 @@ fn a_run_that_ends_well_tells_no_fault(rt: HostRuntime) -> Result<(), Fail> {
 
 #[test]
 fn a_frame_that_was_delivered_came(rt: HostRuntime) -> Result<(), Fail> {
-    let ledger = follow(rt.alloc(), ROUNDS)?;
+    let ledger = follow(rt.alloc(), ROUNDS, &mut Unwatched)?;
     let passages = ledger.passages.as_slice();
     assert!(rt; passages.first().and_then(|passage| passage.came).is_some());
     assert!(rt; passages.get(2).and_then(|passage| passage.came).is_none());
@@ -135,7 +148,11 @@ fn a_frame_that_was_delivered_came(rt: HostRuntime) -> Result<(), Fail> {
 #[test]
 fn a_round_is_parted_into_its_deliveries(rt: HostRuntime) -> Result<(), Fail> {
     let alloc = rt.alloc();
-    let ledger = follow(alloc, b"nodes 3\nsubmit 0 7 1 remove bus-7\nround 0 0 1\n")?;
+    let ledger = follow(
+        alloc,
+        b"nodes 3\nsubmit 0 7 1 remove bus-7\nround 0 0 1\n",
+        &mut Unwatched,
+    )?;
     assert!(rt; ledger.fault.is_none());
     let mut came: usize = 0;
     for passage in ledger.passages.iter() {
@@ -176,11 +193,11 @@ fn a_frame_that_comes_to_a_node_that_is_down_is_lost(rt: HostRuntime) -> Result<
     const OBJECT: &str =
         "{\"line\":5,\"what\":\"lost\",\"frame\":1,\"kind\":\"prepare\",\"from\":0,\"to\":1,\"slot\":0,\"ballot\":\"1.0\"}\n";
     let alloc = rt.alloc();
-    let words = tell(alloc, DOWN, Form::Words, false)?;
+    let words = tell(alloc, DOWN, Form::Words, false, &mut Unwatched)?;
     assert!(rt; str::from_utf8(words.text.as_slice())?.contains(LOST));
-    let objects = tell(alloc, DOWN, Form::Json, false)?;
+    let objects = tell(alloc, DOWN, Form::Json, false, &mut Unwatched)?;
     assert!(rt; str::from_utf8(objects.text.as_slice())?.contains(OBJECT));
-    let picture = draw(alloc, DOWN, None, None)?;
+    let picture = draw(alloc, DOWN, None, None, &mut Unwatched)?;
     assert!(rt; str::from_utf8(picture.text.as_slice())?.contains("sign missed"));
     Ok(())
 }
@@ -192,6 +209,7 @@ fn a_frame_of_a_round_is_sent_when_what_it_answers_has_come(rt: HostRuntime) -> 
     let ledger = follow(
         rt.alloc(),
         b"nodes 3\nsubmit 0 7 1 remove bus-7\nround 0 0 1\n",
+        &mut Unwatched,
     )?;
     assert_eq!(rt; ledger.passages.len(), SENT.len());
     for index in 0..SENT.len() {
@@ -201,14 +219,29 @@ fn a_frame_of_a_round_is_sent_when_what_it_answers_has_come(rt: HostRuntime) -> 
 }
 
 #[test]
+fn a_watch_is_told_of_each_line_that_is_done(rt: HostRuntime) -> Result<(), Fail> {
+    let alloc = rt.alloc();
+    let mut noted = Noted {
+        lines: Vec::new(alloc),
+    };
+    let _ = tell(alloc, SCHEDULE, Form::Words, false, &mut noted)?;
+    assert_eq!(rt; noted.lines.as_slice(), &[(2, 0), (4, 3), (5, 18), (6, 18)]);
+    let _ = draw(alloc, WELL, None, None, &mut noted)?;
+    assert_eq!(rt; &noted.lines[4..], &[(2, 0), (3, 3)]);
+    let _ = map(alloc, WELL, None, 0, &mut noted);
+    assert_eq!(rt; &noted.lines[6..], &[(2, 0), (3, 3)]);
+    Ok(())
+}
+
+#[test]
 fn a_picture_has_lines_frames_and_marks(rt: HostRuntime) -> Result<(), Fail> {
-    let account = draw(rt.alloc(), SCHEDULE, Some(1), Some(2))?;
+    let account = draw(rt.alloc(), SCHEDULE, Some(1), Some(2), &mut Unwatched)?;
     assert!(rt; account.fault.is_some());
     let text = str::from_utf8(account.text.as_slice())?;
     assert!(rt; text.contains("frames 1 to 2 of 18, 3 nodes"));
     assert!(rt; text.contains("<title>frame 2 prepare 0 "));
     assert!(rt; !text.contains("<title>frame 3 "));
-    let account = draw(rt.alloc(), SCHEDULE, None, None)?;
+    let account = draw(rt.alloc(), SCHEDULE, None, None, &mut Unwatched)?;
     let text = str::from_utf8(account.text.as_slice())?;
     assert!(rt; text.contains("submit 0 7 1 remove bus-7"));
     assert!(rt; text.contains("node 0 learns slot 0: 7:1"));
