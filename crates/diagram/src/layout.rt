@@ -1,7 +1,7 @@
 //! Which frames are drawn, and how high each step stands.
 
-ghost use Rattle.std.specs.Prelude.{◌≡◌, ◌+◌, ◌<◌, ◌≤◌, length, slice_index_or, if◌then◌else◌, IfOk};
-ghost use Rattle.diagram.specs.Places.{down};
+ghost use Rattle.std.specs.Prelude.{◌≡◌, ◌+◌, ◌<◌, ◌≤◌, length, slice_index_or, if◌then◌else◌, IfOk, IsTrue};
+ghost use Rattle.diagram.specs.Places.{down, further};
 ghost use Rattle.diagram.specs.Shown.{IsJust, IsLayout, IsStepOf, IsStepOfFrames, IsStepOfPassage, Sets, StandWhereSet, first_step, label_step, last_step, mark_step, sent_at};
 ghost use Rattle.diagram.specs.Windows.{IsChosen, IsWindowOf};
 
@@ -86,7 +86,7 @@ fn fit_page(alloc: Global, scene: &Scene, first: usize, most: usize) -> Result<W
 /// How high the steps stand of which the window shows something.
 pub(crate) fn lay_out(alloc: Global, scene: &Scene, window: Window) -> Result<Layout, AllocError>
     requires { window.first ≤ window.end }
-    ensures { IfOk result (λ layout. IsLayout scene.now window layout.ends.items) }
+    ensures { IfOk result (λ layout. IsLayout scene.now window layout.ends.items layout.height) }
 {
     let mut texts = vec![in alloc; 0u32; scene.steps.saturating_add(1)]?;
     let mut shown = vec![in alloc; false; scene.steps.saturating_add(1)]?;
@@ -212,7 +212,7 @@ fn add_text(texts: &mut Vec<u32>, index: usize, is_shown: bool)
 /// The steps that are shown, one below the other.
 fn stack(alloc: Global, texts: Vec<u32>, shown: Vec<bool>) -> Result<Layout, AllocError>
     requires { length texts.items ≡ length shown.items }
-    ensures { IfOk result (λ layout. StandWhereSet shown.items layout.ends.items) }
+    ensures { IfOk result (λ layout. StandWhereSet shown.items layout.ends.items layout.height) }
 {
     let bare = bare_row(texts.as_slice(), shown.as_slice());
     let mut ends = Vec::new(alloc);
@@ -231,7 +231,8 @@ fn stack(alloc: Global, texts: Vec<u32>, shown: Vec<bool>) -> Result<Layout, All
 
 /// How far it is down to the end of a step that begins there, if it is shown.
 fn stand_below(height: u32, is_shown: bool, row: u32) -> u32
-    ensures { height ≤ result }
+    ensures lower { height ≤ result }
+    ensures shown { IsTrue is_shown → result ≡ further height row }
 {
     if is_shown {
         height.saturating_add(row)
@@ -248,7 +249,10 @@ fn place_if(is_shown: bool, height: u32) -> u32
 }
 
 /// The height of a step with so many lines of text.
-fn row_of(count: u32, bare: u32) -> u32 {
+fn row_of(count: u32, bare: u32) -> u32
+    requires { BARE_ROW ≤ bare }
+    ensures { BARE_ROW ≤ result }
+{
     if count == 0 {
         bare
     } else {
@@ -257,7 +261,9 @@ fn row_of(count: u32, bare: u32) -> u32 {
 }
 
 /// The height of a step without text: as much as fills the page.
-fn bare_row(texts: &[u32], shown: &[bool]) -> u32 {
+fn bare_row(texts: &[u32], shown: &[bool]) -> u32
+    ensures { BARE_ROW ≤ result }
+{
     let mut text_height = TOP;
     let mut bare = 0u32;
     for (count, is_shown) in texts.iter().zip(shown.iter()) {
