@@ -1,9 +1,9 @@
 -- Flags of steps, and the places of those that are set.
-use Rattle.std.proofs.Common.{◌≡◌, ◌∙◌, ◌⊎◌, inl, inr, ℕ, zero, suc, ◌+◌, ◌<◌, ◌≤◌, List, [], ◌∷◌, ◌++◌, length, take, replicate, slice_get, slice_index_or, slice_set, Bool, true, false, Some, if◌then◌else◌, refl, sym, subst, ap, arith}
+use Rattle.std.proofs.Common.{◌≡◌, ◌∙◌, ◌⊎◌, inl, inr, ℕ, zero, suc, ◌+◌, ◌-◌, ◌*◌, ◌^◌, ◌<◌, ◌≤◌, max, min, List, [], ◌∷◌, ◌++◌, length, take, replicate, slice_get, slice_index_or, slice_set, Bool, true, false, Some, if◌then◌else◌, refl, sym, subst, ap, arith}
 use Rattle.std.proofs.lemmas.Bool.{cases_lt, false≢true}
 use Rattle.std.proofs.lemmas.List.{get_or_append_left, get_or_past}
 use Rattle.std.proofs.lemmas.Option.{none-some, same_Some}
-use Rattle.diagram.specs.Places.{Stands, down, further}
+use Rattle.diagram.specs.Places.{HaveRoom, Stands, down, further}
 use Rattle.diagram.specs.Shown.{IsJust, IsLayout, IsSet, IsStepOf, IsStepOfFrames, Sets, StandWhereSet, first_step, frame, label, label_step, last_step, mark, mark_step}
 use Rattle.diagram.specs.declared.arrows.Passage.{Passage}
 use Rattle.diagram.specs.declared.layout.Window.{Window}
@@ -169,6 +169,34 @@ none_stand bottom = record {
 abbrev pub place_if : Bool → ℕ → ℕ
 place_if flag height = if flag then height else 0
 
+-- the next step, if it stands, is so far below those so far as it wants
+module _ (ends : List ℕ) (low : ℕ) (inside : (step : ℕ) → down ends step ≤ low) (gap : ℕ → ℕ)
+    (apart : (i j : ℕ) → i < j → Stands ends i → Stands ends j → further (down ends i) (gap j) ≤ down ends j) where
+  pub apart_more : (e : ℕ) → (0 < e → further low (gap (length ends)) ≤ e) → (i j : ℕ) → i < j → Stands (ends ++ e ∷ []) i
+      → Stands (ends ++ e ∷ []) j → further (down (ends ++ e ∷ []) i) (gap j) ≤ down (ends ++ e ∷ []) j
+  apart_more e far i j ordered h k = elim (number_of_more ends e j) [
+    | inl b ↦
+        let a = get_or_append_left ends (e ∷ []) 0 i (omega (arith, ordered, b.0)) in
+        omega (arith, apart i j ordered (omega (arith, h, a)) (omega (arith, k, b.1)), a, b.1)
+    | inr s ↦ elim s [
+      | inl b ↦
+          let a = get_or_append_left ends (e ∷ []) 0 i (omega (arith, ordered, b.0)) in
+          omega (arith, inside i, a, b.1, far (omega (arith, k, b.1)), ap gap b.0)
+      | inr b ↦ absurd (omega (arith, b.1, k))
+    ]
+  ]
+
+-- so there is room for the next step's lines of text
+pub room_more : (texts ends : List ℕ) (low e : ℕ) → ((step : ℕ) → down ends step ≤ low) → HaveRoom texts ends
+    → (0 < e → further low (max 450 (slice_index_or texts (length ends) 0 * 900)) ≤ e) → HaveRoom texts (ends ++ e ∷ [])
+room_more texts ends low e inside room far =
+    record { each = apart_more ends low inside (λ (j : ℕ). max 450 (slice_index_or texts j 0 * 900)) room.each e far }
+
+pub room_if : (flag : Bool) (low high row lines count : ℕ) → (flag ≡ true → high ≡ further low row) → lines ≡ count
+    → max 450 (min (count * 900) (2 ^ 32 - 1)) ≤ row → 0 < place_if flag high → further low (max 450 (lines * 900)) ≤ place_if flag high
+room_if true low high row lines count is same much up = omega (arith, is refl, same, much)
+room_if false low high row lines count is same much up = absurd (omega (arith, up))
+
 module _ (ends : List ℕ) (low : ℕ) (flags : List Bool) (same : length ends ≡ length flags) (stand : StandWhereSet flags ends low) where
   stood : (step : ℕ) → Stands ends step → step < length ends
   stood step h = elim (cases_lt step (length ends)) [
@@ -184,17 +212,8 @@ module _ (ends : List ℕ) (low : ℕ) (flags : List Bool) (same : length ends �
 
   apart_still : (e i j : ℕ) → (0 < e → further low 450 ≤ e) → i < j → Stands (ends ++ e ∷ []) i → Stands (ends ++ e ∷ []) j
       → further (down (ends ++ e ∷ []) i) 450 ≤ down (ends ++ e ∷ []) j
-  apart_still e i j far ordered h k = elim (number_of_more ends e j) [
-    | inl b ↦
-        let a : down (ends ++ e ∷ []) i ≡ down ends i = still e i (omega (arith, ordered, b.0)) in
-        omega (arith, stand.stacked.apart i j ordered (omega (arith, h, a)) (omega (arith, k, b.1)), a, b.1)
-    | inr s ↦ elim s [
-      | inl b ↦
-          let a : down (ends ++ e ∷ []) i ≡ down ends i = still e i (omega (arith, ordered, b.0)) in
-          omega (arith, stand.stacked.inside i, a, b.1, far (omega (arith, k, b.1)))
-      | inr b ↦ absurd (omega (arith, b.1, k))
-    ]
-  ]
+  apart_still e i j far ordered h k =
+      apart_more ends low stand.stacked.inside (λ (n : ℕ). 450) stand.stacked.apart e far i j ordered h k
 
   inside_still : (e high : ℕ) → low ≤ high → e ≤ high → (step : ℕ) → down (ends ++ e ∷ []) step ≤ high
   inside_still e high lower top step = elim (number_of_more ends e step) [

@@ -1,10 +1,10 @@
 -- How the things of a picture are drawn.
-use Rattle.std.specs.Prelude.{◌≡◌, ℕ, ◌-◌, ◌*◌, ◌<◌, ◌≤◌, nat_lt, List, [], ◌∷◌, ◌++◌, codes, decimal, take, slice_get, Some, if◌then◌else◌}
+use Rattle.std.specs.Prelude.{◌≡◌, ℕ, ◌+◌, ◌-◌, ◌*◌, ◌^◌, ◌<◌, ◌≤◌, nat_lt, List, [], ◌∷◌, ◌++◌, codes, decimal, take, slice_get, Some, if◌then◌else◌}
 use Rattle.picture.specs.Elements.{closed, line_text, opened, words_text}
 use Rattle.picture.specs.declared.canvas.Place.{Place}
 use Rattle.wire.specs.declared.frames.envelope.Envelope.{Envelope}
 use Rattle.diagram.specs.Facts.{facts_of, kind_text}
-use Rattle.diagram.specs.Places.{down, further, lane}
+use Rattle.diagram.specs.Places.{Stands, down, further, lane}
 use Rattle.diagram.specs.Signs.{marks_at, sign_text}
 use Rattle.diagram.specs.Strokes.{stroke_text}
 use Rattle.diagram.specs.Titles.{title_text}
@@ -54,10 +54,11 @@ abbrev pub IsLane : ℕ → ℕ → ℕ → List ℕ → Type 0
 IsLane nodes bottom node text = text ≡ lane_text nodes bottom node
 
 -- ---- the lines of the schedule
--- the first 56 bytes of a line, left of the lanes, not below its step
+-- the first 56 bytes of a line, left of the lanes, not below its step, and below the steps above that, unless it is at the greatest number
 pub record IsLine (ends : List ℕ) (label : Label) (text : List ℕ) : Type 0 where
   pub height : ℕ
   pub above : height ≤ down ends label.step
+  pub below : (i : ℕ) → i < label.step → Stands ends i → down ends label.step < 2 ^ 32 - 1 → down ends i + 450 ≤ height
   pub is : text ≡ words_text (codes "line") (record { x = 1000; y = height }) (take 56 label.text.items)
 
 -- ---- the frames

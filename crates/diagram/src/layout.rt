@@ -1,7 +1,7 @@
 //! Which frames are drawn, and how high each step stands.
 
-ghost use Rattle.std.specs.Prelude.{◌≡◌, ◌+◌, ◌<◌, ◌≤◌, length, slice_index_or, if◌then◌else◌, IfOk, IsTrue};
-ghost use Rattle.diagram.specs.Places.{down, further};
+ghost use Rattle.std.specs.Prelude.{◌≡◌, ℕ, ◌+◌, ◌-◌, ◌*◌, ◌^◌, ◌<◌, ◌≤◌, max, min, length, slice_index_or, if◌then◌else◌, IfOk, IsTrue};
+ghost use Rattle.diagram.specs.Places.{HaveRoom, Stands, down, further};
 ghost use Rattle.diagram.specs.Shown.{IsJust, IsLayout, IsStepOf, IsStepOfFrames, IsStepOfPassage, Sets, StandWhereSet, first_step, label_step, last_step, mark_step, sent_at};
 ghost use Rattle.diagram.specs.Windows.{IsChosen, IsWindowOf};
 
@@ -39,6 +39,7 @@ pub(crate) struct Layout {
     pub texts: Vec<u32>,
     pub ends: Vec<u32>,
     pub height: u32,
+    ghost room: { HaveRoom texts.items ends.items },
 }
 
 /// The frames that are drawn: from `from`, or the first one, to `to`, or the last one; of more than a picture shows, and of more than fit
@@ -251,7 +252,7 @@ fn place_if(is_shown: bool, height: u32) -> u32
 /// The height of a step with so many lines of text.
 fn row_of(count: u32, bare: u32) -> u32
     requires { BARE_ROW ≤ bare }
-    ensures { BARE_ROW ≤ result }
+    ensures { max BARE_ROW (min (count * TEXT_ROW) (2 ^ 32 - 1)) ≤ result }
 {
     if count == 0 {
         bare
@@ -288,11 +289,19 @@ impl Layout {
 
     /// Where the line of text stands that has so many others of its step before it.
     pub fn text_place(&self, step: usize, before: u32) -> u32
-        ensures { result ≤ down self.now.ends.items step }
+        ensures above { result ≤ down self.now.ends.items step }
+        ensures below { let ends = self.now.ends.items in (i : ℕ) → i < step → Stands ends i → Stands ends step
+            → down ends step < 2 ^ 32 - 1 → down ends i + 450 ≤ result }
     {
-        let count = self.texts.get(step).copied().unwrap_or(0);
-        let below = count.saturating_sub(before.saturating_add(1));
+        let below = self.texts_of(step).saturating_sub(before.saturating_add(1));
         self.place_of(step)
             .saturating_sub(below.saturating_mul(TEXT_ROW))
+    }
+
+    /// How many lines of text a step has.
+    fn texts_of(&self, step: usize) -> u32
+        ensures { result ≡ slice_index_or self.now.texts.items step 0 }
+    {
+        self.texts.get(step).copied().unwrap_or(0)
     }
 }

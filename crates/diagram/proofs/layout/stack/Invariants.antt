@@ -1,4 +1,5 @@
 use Rattle.std.proofs.Common.{◌≡◌, ◌<◌, length, take}
+use Rattle.diagram.specs.Places.{HaveRoom}
 use Rattle.diagram.specs.Shown.{StandWhereSet}
 use Rattle.diagram.proofs.layout.stack.Given as goal
 
@@ -8,4 +9,5 @@ invariant-loop-index l = record {
   high : 0 < l.height;
   long : length l.ends.items ≡ l.index;
   stand : StandWhereSet (take l.index l.shown.items) l.ends.items l.height;
+  room : HaveRoom l.texts.items l.ends.items;
 }
