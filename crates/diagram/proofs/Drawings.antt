@@ -1,12 +1,8 @@
 -- Parts of a picture, one behind another.
-use Rattle.std.proofs.Common.{◌≡◌, ◌∙◌, ℕ, ◌-◌, ◌≤◌, List, [], ◌++◌, Result, OnOk, sym, subst, ap, append_assoc, append-nil}
+use Rattle.std.proofs.Common.{◌≡◌, ◌∙◌, ℕ, List, [], ◌++◌, Result, OnOk, sym, subst, ap, append_assoc, append-nil}
 use Rattle.std.proofs.lemmas.Result.{on_ok_weaker}
 use Rattle.picture.specs.Elements.{closed, opened, words_text}
-use Rattle.picture.specs.declared.canvas.Place.{Place}
-use Rattle.diagram.specs.Drawn.{Adds, MayTell, group, told}
-use Rattle.diagram.specs.Places.{down, lane}
-use Rattle.diagram.specs.declared.arrows.Arrow.{Arrow}
-use Rattle.std.specs.Prelude.{codes}
+use Rattle.diagram.specs.Drawn.{Adds, group}
 
 pub one_part : (IsSuch : List ℕ → Type 0) (part old new : List ℕ) → IsSuch part → new ≡ old ++ part → Adds IsSuch old new
 one_part IsSuch part old new such is = record { part = part; such = such; is = is }
@@ -19,7 +15,7 @@ pub adds_nothing : (IsSuch : List ℕ → Type 0) (old : List ℕ) → IsSuch []
 adds_nothing IsSuch old such = one_part IsSuch [] old old such (sym (append-nil old))
 
 -- two parts are one
-behind : (old a b now new : List ℕ) → now ≡ old ++ a → new ≡ now ++ b → new ≡ old ++ (a ++ b)
+pub behind : (old a b now new : List ℕ) → now ≡ old ++ a → new ≡ now ++ b → new ≡ old ++ (a ++ b)
 behind old a b now new one two = two ∙ ap (λ (t : List ℕ). t ++ b) one ∙ append_assoc old a b
 
 pub adds_two : {T E : Type 0} (r : Result T E) (IsSuch : List ℕ → Type 0) (a b old now new : List ℕ) → IsSuch (a ++ b) → now ≡ old ++ a
@@ -33,16 +29,15 @@ pub grouped : (class title inside old a b new : List ℕ) → a ≡ old ++ opene
 grouped class title inside old a b new begin within close =
     behind old (opened class title) (inside ++ closed) a new begin (behind a inside closed b new within close)
 
-pub adds_group : {T E : Type 0} (r : Result T E) (IsSuch : List ℕ → Type 0) (class title first second old a b c new : List ℕ)
-    → IsSuch (group class title (first ++ second)) → a ≡ old ++ opened class title → b ≡ a ++ first → c ≡ b ++ second
-    → OnOk r (new ≡ c ++ closed) → OnOk r (Adds IsSuch old new)
-adds_group r IsSuch class title first second old a b c new such begin one two close =
-    adds r IsSuch (group class title (first ++ second)) old new such
-    (on_ok_weaker r (grouped class title (first ++ second) old a c new begin (behind a first second b c one two)) close)
+pub puts_group : {T E : Type 0} (r : Result T E) (class title first second old a b c new : List ℕ) → a ≡ old ++ opened class title
+    → b ≡ a ++ first → c ≡ b ++ second → OnOk r (new ≡ c ++ closed) → OnOk r (new ≡ old ++ group class title (first ++ second))
+puts_group r class title first second old a b c new begin one two close =
+    on_ok_weaker r (grouped class title (first ++ second) old a c new begin (behind a first second b c one two)) close
 
--- a frame's kind, by the word for it
-pub told_so : (nodes : ℕ) (ends : List ℕ) (arrow : Arrow) (kind : List ℕ) (beside : Place) (word : List ℕ) → word ≡ kind
-    → beside.x ≡ lane nodes arrow.from - 200 → down ends arrow.sent ≤ beside.y
-    → MayTell nodes ends arrow kind (words_text (codes "kind") beside word)
-told_so nodes ends arrow kind beside word said left below =
-    subst (λ (t : List ℕ). MayTell nodes ends arrow kind (words_text (codes "kind") beside t)) (sym said) (told beside left below)
+-- words, by the place and the text that the code has
+pub words_so : (class : List ℕ) (x y u v : ℕ) (text word old new : List ℕ) → x ≡ u → y ≡ v → text ≡ word
+    → new ≡ old ++ words_text class (record { x = x; y = y }) text → new ≡ old ++ words_text class (record { x = u; y = v }) word
+words_so class x y u v text word old new right down said is =
+    subst (λ (t : List ℕ). new ≡ old ++ words_text class (record { x = u; y = v }) t) said
+    (subst (λ (n : ℕ). new ≡ old ++ words_text class (record { x = u; y = n }) text) down
+    (subst (λ (n : ℕ). new ≡ old ++ words_text class (record { x = n; y = y }) text) right is))

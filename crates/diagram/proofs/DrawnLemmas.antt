@@ -1,15 +1,14 @@
 -- From what each function draws to the picture.
-use Rattle.std.proofs.Common.{◌≡◌, ◌∙◌, ℕ, ◌+◌, ◌-◌, ◌<◌, List, ◌++◌, length, take, slice_index_or, slice_get, codes, decimal, Option, Some, None, Result, Ok, Err, OnOk, IfOk, refl, sym, ap, subst}
+use Rattle.std.proofs.Common.{◌≡◌, ◌∙◌, ℕ, ◌+◌, ◌*◌, ◌<◌, ◌≤◌, List, ◌++◌, length, take, slice_index_or, slice_get, Option, Some, None, Result, Ok, Err, OnOk, IfOk, refl, sym, ap, subst}
 use Rattle.std.specs.List.{range_with_len}
 use Rattle.std.proofs.lemmas.Option.{none-some}
 use Rattle.std.proofs.lemmas.Result.{on_ok_weaker}
-use Rattle.picture.specs.Elements.{line_text, picture_begun, picture_ended, words_text}
+use Rattle.picture.specs.Elements.{picture_begun, picture_ended}
 use Rattle.wire.specs.declared.frames.envelope.Envelope.{Envelope}
 use Rattle.diagram.specs.Arrows.{AreArrows, IsArrow}
-use Rattle.diagram.specs.Drawn.{Adds, Draws, IsFrame, IsHead, IsLane, IsLine, IsMark, IsTold, more}
+use Rattle.diagram.specs.Drawn.{Adds, Draws, IsFrame, IsHead, IsLane, IsLine, IsMark, IsTold, lane_text, more}
 use Rattle.diagram.specs.Facts.{facts_of}
 use Rattle.diagram.specs.Pictures.{AreDrawn, AreThere, DrawsFrames, IsThere, IsWhole, ShowsAsked}
-use Rattle.diagram.specs.Places.{lane}
 use Rattle.diagram.specs.Shown.{DrawsStanding, IsLayout, label_step, mark_step}
 use Rattle.diagram.specs.Windows.{IsChosen}
 use Rattle.diagram.specs.declared.arrows.Arrow.{Arrow}
@@ -18,19 +17,11 @@ use Rattle.diagram.specs.declared.scene.Scene.{Scene}
 use Rattle.diagram.proofs.ListLemmas.{range_to, take_so_far}
 
 -- ---- lanes
-pub lane_so : (nodes node x left bottom : ℕ) (name : List ℕ) → x ≡ lane nodes node → left ≡ x - 1200
-    → name ≡ codes "node " ++ decimal node
-    → IsLane nodes node (words_text (codes "head") (record { x = left; y = 3600 }) name
-    ++ line_text (codes "lane") (record { x = x; y = 3800 }) (record { x = x; y = bottom }))
-lane_so nodes node x left bottom name there off said = record {
-  bottom = bottom;
-  is = rw (said, off, there) refl;
-}
-
-pub one_more_lane : (nodes n : ℕ) (a b c : List ℕ) → Draws (IsLane nodes) a (range_with_len 0 n) b → Adds (IsLane nodes n) b c
-    → Draws (IsLane nodes) a (range_with_len 0 (n + 1)) c
-one_more_lane nodes n a b c before now =
-    subst (λ (ns : List ℕ). Draws (IsLane nodes) a ns c) (range_to n) (more (range_with_len 0 n) n b c before now)
+pub one_more_lane : (nodes bottom n : ℕ) (a b c : List ℕ) → Draws (IsLane nodes bottom) a (range_with_len 0 n) b
+    → c ≡ b ++ lane_text nodes bottom n → Draws (IsLane nodes bottom) a (range_with_len 0 (n + 1)) c
+one_more_lane nodes bottom n a b c before now =
+    subst (λ (ns : List ℕ). Draws (IsLane nodes bottom) a ns c) (range_to n)
+    (more (range_with_len 0 n) n b c before (record { part = lane_text nodes bottom n; such = refl; is = now }))
 
 -- ---- the frame of an arrow
 -- of an arrow that is one of a frame it is there
@@ -70,17 +61,19 @@ one_more_drawn s ends arrows n x a b c before now below read all =
     (more (take n arrows) x b c (before all) (now here))
 
 -- ---- the picture
-module _ (s : Scene) (from to : Option ℕ) (window : Window) (width height : ℕ) (style begun a b c d e ends : List ℕ) where
-  whole : (text : List ℕ) → IsLayout s window ends → begun ≡ picture_begun width height style
-      → Adds (IsHead (length s.frames.now) s.nodes window) begun a → Draws (IsLane s.nodes) a (range_with_len 0 s.nodes) b
+module _ (s : Scene) (from to : Option ℕ) (window : Window) (width height bottom : ℕ) (style begun a b c d e ends : List ℕ) where
+  whole : (text : List ℕ) → IsLayout s window ends bottom → bottom ≤ height * 100 → begun ≡ picture_begun width height style
+      → Adds (IsHead (length s.frames.now) s.nodes window) begun a → Draws (IsLane s.nodes bottom) a (range_with_len 0 s.nodes) b
       → DrawsStanding label_step (IsLine ends) ends s.labels.now b c → DrawsFrames s window ends c d
-      → DrawsStanding mark_step (IsMark s.nodes ends) ends s.marks.now d e → text ≡ e ++ picture_ended → AreDrawn s window text
-  whole text layout begins head lanes labels frames marks is = record {
+      → DrawsStanding mark_step (IsMark s.nodes s.marks.now ends) ends s.marks.now d e → text ≡ e ++ picture_ended → AreDrawn s window text
+  whole text layout high begins head lanes labels frames marks is = record {
     width = width;
     height = height;
     style = style;
     ends = ends;
+    bottom = bottom;
     layout = layout;
+    high = high;
     behind_head = a;
     head = subst (λ (t : List ℕ). Adds (IsHead (length s.frames.now) s.nodes window) t a) begins head;
     behind_lanes = b;
@@ -95,13 +88,13 @@ module _ (s : Scene) (from to : Option ℕ) (window : Window) (width height : �
   }
 
   pub shows : {T E : Type 0} (r : Result T E) (text_of : T → List ℕ) → IsChosen (length s.frames.now) from to window
-      → IsLayout s window ends → begun ≡ picture_begun width height style → Adds (IsHead (length s.frames.now) s.nodes window) begun a
-      → Draws (IsLane s.nodes) a (range_with_len 0 s.nodes) b → DrawsStanding label_step (IsLine ends) ends s.labels.now b c
-      → (IsWhole s → DrawsFrames s window ends c d) → DrawsStanding mark_step (IsMark s.nodes ends) ends s.marks.now d e
+      → IsLayout s window ends bottom → bottom ≤ height * 100 → begun ≡ picture_begun width height style → Adds (IsHead (length s.frames.now) s.nodes window) begun a
+      → Draws (IsLane s.nodes bottom) a (range_with_len 0 s.nodes) b → DrawsStanding label_step (IsLine ends) ends s.labels.now b c
+      → (IsWhole s → DrawsFrames s window ends c d) → DrawsStanding mark_step (IsMark s.nodes s.marks.now ends) ends s.marks.now d e
       → IfOk r (λ t. text_of t ≡ e ++ picture_ended) → IfOk r (λ t. ShowsAsked s from to (text_of t))
-  shows (Ok t) text_of chosen layout begins head lanes labels frames marks is = record {
+  shows (Ok t) text_of chosen layout high begins head lanes labels frames marks is = record {
     window = window;
     chosen = chosen;
-    drawn = λ all. whole (text_of t) layout begins head lanes labels (frames all) marks is;
+    drawn = λ all. whole (text_of t) layout high begins head lanes labels (frames all) marks is;
   }
-  shows (Err f) text_of chosen layout begins head lanes labels frames marks is = tt
+  shows (Err f) text_of chosen layout high begins head lanes labels frames marks is = tt

@@ -1,9 +1,9 @@
 -- Flags of steps, and the places of those that are set.
-use Rattle.std.proofs.Common.{◌≡◌, ◌∙◌, ◌⊎◌, inl, inr, ℕ, zero, suc, ◌+◌, ◌<◌, ◌≤◌, List, [], ◌∷◌, ◌++◌, length, take, replicate, slice_get, slice_index_or, slice_set, Bool, true, false, Some, if◌then◌else◌, refl, sym, subst, ap, arith}
+use Rattle.std.proofs.Common.{◌≡◌, ◌∙◌, ◌⊎◌, inl, inr, ℕ, zero, suc, ◌+◌, ◌-◌, ◌*◌, ◌^◌, ◌<◌, ◌≤◌, max, min, List, [], ◌∷◌, ◌++◌, length, take, replicate, slice_get, slice_index_or, slice_set, Bool, true, false, Some, if◌then◌else◌, refl, sym, subst, ap, arith}
 use Rattle.std.proofs.lemmas.Bool.{cases_lt, false≢true}
 use Rattle.std.proofs.lemmas.List.{get_or_append_left, get_or_past}
 use Rattle.std.proofs.lemmas.Option.{none-some, same_Some}
-use Rattle.diagram.specs.Places.{Stands, down}
+use Rattle.diagram.specs.Places.{HaveRoom, Stands, down, further}
 use Rattle.diagram.specs.Shown.{IsJust, IsLayout, IsSet, IsStepOf, IsStepOfFrames, Sets, StandWhereSet, first_step, frame, label, label_step, last_step, mark, mark_step}
 use Rattle.diagram.specs.declared.arrows.Passage.{Passage}
 use Rattle.diagram.specs.declared.layout.Window.{Window}
@@ -158,79 +158,98 @@ module _ (passages : List Passage) where
       })
 
 -- ---- places
-pub none_stand : StandWhereSet [] []
-none_stand = record {
+pub none_stand : (bottom : ℕ) → StandWhereSet [] [] bottom
+none_stand bottom = record {
   stands = λ step h. absurd (none-some true h);
   set = λ step h. absurd (omega (arith, h));
-  in_order = λ i j ordered h k. absurd (omega (arith, h));
+  stacked = record { apart = λ i j ordered h k. absurd (omega (arith, h)); inside = λ step. omega arith };
 }
 
 -- the next step stands at this height, if its flag is set
 abbrev pub place_if : Bool → ℕ → ℕ
 place_if flag height = if flag then height else 0
 
-module _ (ends : List ℕ) (low high : ℕ) (below : (step : ℕ) → down ends step ≤ low) (lower : low ≤ high) where
-  below_more : (e : ℕ) → e ≤ high → (step : ℕ) → down (ends ++ e ∷ []) step ≤ high
-  below_more e top step = elim (number_of_more ends e step) [
-    | inl h ↦ omega (arith, below step, h.1)
+-- the next step, if it stands, is so far below those so far as it wants
+module _ (ends : List ℕ) (low : ℕ) (inside : (step : ℕ) → down ends step ≤ low) (gap : ℕ → ℕ)
+    (apart : (i j : ℕ) → i < j → Stands ends i → Stands ends j → further (down ends i) (gap j) ≤ down ends j) where
+  pub apart_more : (e : ℕ) → (0 < e → further low (gap (length ends)) ≤ e) → (i j : ℕ) → i < j → Stands (ends ++ e ∷ []) i
+      → Stands (ends ++ e ∷ []) j → further (down (ends ++ e ∷ []) i) (gap j) ≤ down (ends ++ e ∷ []) j
+  apart_more e far i j ordered h k = elim (number_of_more ends e j) [
+    | inl b ↦
+        let a = get_or_append_left ends (e ∷ []) 0 i (omega (arith, ordered, b.0)) in
+        omega (arith, apart i j ordered (omega (arith, h, a)) (omega (arith, k, b.1)), a, b.1)
     | inr s ↦ elim s [
-      | inl h ↦ omega (arith, h.1)
+      | inl b ↦
+          let a = get_or_append_left ends (e ∷ []) 0 i (omega (arith, ordered, b.0)) in
+          omega (arith, inside i, a, b.1, far (omega (arith, k, b.1)), ap gap b.0)
+      | inr b ↦ absurd (omega (arith, b.1, k))
+    ]
+  ]
+
+-- so there is room for the next step's lines of text
+pub room_more : (texts ends : List ℕ) (low e : ℕ) → ((step : ℕ) → down ends step ≤ low) → HaveRoom texts ends
+    → (0 < e → further low (max 450 (slice_index_or texts (length ends) 0 * 900)) ≤ e) → HaveRoom texts (ends ++ e ∷ [])
+room_more texts ends low e inside room far =
+    record { each = apart_more ends low inside (λ (j : ℕ). max 450 (slice_index_or texts j 0 * 900)) room.each e far }
+
+pub room_if : (flag : Bool) (low high row lines count : ℕ) → (flag ≡ true → high ≡ further low row) → lines ≡ count
+    → max 450 (min (count * 900) (2 ^ 32 - 1)) ≤ row → 0 < place_if flag high → further low (max 450 (lines * 900)) ≤ place_if flag high
+room_if true low high row lines count is same much up = omega (arith, is refl, same, much)
+room_if false low high row lines count is same much up = absurd (omega (arith, up))
+
+module _ (ends : List ℕ) (low : ℕ) (flags : List Bool) (same : length ends ≡ length flags) (stand : StandWhereSet flags ends low) where
+  stood : (step : ℕ) → Stands ends step → step < length ends
+  stood step h = elim (cases_lt step (length ends)) [
+    | inl k ↦ k
+    | inr k ↦ absurd (omega (arith, h, get_or_past ends step 0 k))
+  ]
+
+  still : (e step : ℕ) → step < length ends → down (ends ++ e ∷ []) step ≡ down ends step
+  still e step h = get_or_append_left ends (e ∷ []) 0 step h
+
+  stands_still : (e step : ℕ) → Stands ends step → Stands (ends ++ e ∷ []) step
+  stands_still e step h = omega (arith, h, still e step (stood step h))
+
+  apart_still : (e i j : ℕ) → (0 < e → further low 450 ≤ e) → i < j → Stands (ends ++ e ∷ []) i → Stands (ends ++ e ∷ []) j
+      → further (down (ends ++ e ∷ []) i) 450 ≤ down (ends ++ e ∷ []) j
+  apart_still e i j far ordered h k =
+      apart_more ends low stand.stacked.inside (λ (n : ℕ). 450) stand.stacked.apart e far i j ordered h k
+
+  inside_still : (e high : ℕ) → low ≤ high → e ≤ high → (step : ℕ) → down (ends ++ e ∷ []) step ≤ high
+  inside_still e high lower top step = elim (number_of_more ends e step) [
+    | inl h ↦ omega (arith, stand.stacked.inside step, h.1, lower)
+    | inr s ↦ elim s [
+      | inl h ↦ omega (arith, h.1, top)
       | inr h ↦ omega (arith, h)
     ]
   ]
 
-  pub below_if : (flag : Bool) (step : ℕ) → down (ends ++ place_if flag high ∷ []) step ≤ high
-  below_if true step = below_more high (omega arith) step
-  below_if false step = below_more 0 (omega arith) step
-
-  module _ (flags : List Bool) (same : length ends ≡ length flags) (stand : StandWhereSet flags ends) where
-    stood : (step : ℕ) → Stands ends step → step < length ends
-    stood step h = elim (cases_lt step (length ends)) [
-      | inl k ↦ k
-      | inr k ↦ absurd (omega (arith, h, get_or_past ends step 0 k))
-    ]
-
-    still : (e step : ℕ) → step < length ends → down (ends ++ e ∷ []) step ≡ down ends step
-    still e step h = get_or_append_left ends (e ∷ []) 0 step h
-
-    stands_still : (e step : ℕ) → Stands ends step → Stands (ends ++ e ∷ []) step
-    stands_still e step h = omega (arith, h, still e step (stood step h))
-
-    in_order_still : (e i j : ℕ) → (0 < e → low ≤ e) → i ≤ j → Stands (ends ++ e ∷ []) i → Stands (ends ++ e ∷ []) j
-        → down (ends ++ e ∷ []) i ≤ down (ends ++ e ∷ []) j
-    in_order_still e i j not_higher ordered h k = elim (number_of_more ends e j) [
-      | inl b ↦
-          let a : down (ends ++ e ∷ []) i ≡ down ends i = still e i (omega (arith, ordered, b.0)) in
-          omega (arith, stand.in_order i j ordered (omega (arith, h, a)) (omega (arith, k, b.1)), a, b.1)
+  stand_more : (flag : Bool) (e high : ℕ) → (flag ≡ true → 0 < e) → (0 < e → flag ≡ true) → (0 < e → further low 450 ≤ e) → low ≤ high
+      → e ≤ high → StandWhereSet (flags ++ flag ∷ []) (ends ++ e ∷ []) high
+  stand_more flag e high up flagged far lower top = record {
+    stands = λ step h. elim (got_of_more flags flag true step h) [
+      | inl set ↦ stands_still e step (stand.stands step set)
+      | inr k ↦ omega (arith, last_number ends e step (k.0 ∙ sym same), up k.1)
+    ];
+    set = λ step h. elim (number_of_more ends e step) [
+      | inl k ↦ got_before flags (flag ∷ []) step true (stand.set step (omega (arith, h, k.1)))
       | inr s ↦ elim s [
-        | inl b ↦ elim (number_of_more ends e i) [
-          | inl a ↦ omega (arith, below i, a.1, b.1, not_higher (omega (arith, k, b.1)))
-          | inr t ↦ elim t [ inl a ↦ omega (arith, a.1, b.1) | inr a ↦ absurd (omega (arith, a.1, h)) ]
-        ]
-        | inr b ↦ absurd (omega (arith, b.1, k))
+        | inl k ↦ got_last flags flag step (k.0 ∙ same) ∙ ap (λ (b : Bool). Some b) (flagged (omega (arith, h, k.1)))
+        | inr k ↦ absurd (omega (arith, h, k.1))
       ]
-    ]
+    ];
+    stacked = record {
+      apart = λ i j ordered h k. apart_still e i j far ordered h k;
+      inside = inside_still e high lower top;
+    };
+  }
 
-    stand_more : (flag : Bool) (e : ℕ) → (flag ≡ true → 0 < e) → (0 < e → flag ≡ true) → (0 < e → low ≤ e)
-        → StandWhereSet (flags ++ flag ∷ []) (ends ++ e ∷ [])
-    stand_more flag e up flagged not_higher = record {
-      stands = λ step h. elim (got_of_more flags flag true step h) [
-        | inl set ↦ stands_still e step (stand.stands step set)
-        | inr k ↦ omega (arith, last_number ends e step (k.0 ∙ sym same), up k.1)
-      ];
-      set = λ step h. elim (number_of_more ends e step) [
-        | inl k ↦ got_before flags (flag ∷ []) step true (stand.set step (omega (arith, h, k.1)))
-        | inr s ↦ elim s [
-          | inl k ↦ got_last flags flag step (k.0 ∙ same) ∙ ap (λ (b : Bool). Some b) (flagged (omega (arith, h, k.1)))
-          | inr k ↦ absurd (omega (arith, h, k.1))
-        ]
-      ];
-      in_order = λ i j ordered h k. in_order_still e i j not_higher ordered h k;
-    }
-
-    pub stand_if : (flag : Bool) → 0 < high → StandWhereSet (flags ++ flag ∷ []) (ends ++ place_if flag high ∷ [])
-    stand_if true up = stand_more true high (λ e. up) (λ h. refl) (λ h. lower)
-    stand_if false up = stand_more false 0 (λ e. absurd (false≢true e)) (λ h. absurd (omega (arith, h))) (λ h. absurd (omega (arith, h)))
+  pub stand_if : (flag : Bool) (high : ℕ) → low ≤ high → 0 < high → (flag ≡ true → further low 450 ≤ high)
+      → StandWhereSet (flags ++ flag ∷ []) (ends ++ place_if flag high ∷ []) high
+  stand_if true high lower up far = stand_more true high high (λ e. up) (λ h. refl) (λ h. far refl) lower (omega arith)
+  stand_if false high lower up far =
+      stand_more false 0 high (λ e. absurd (false≢true e)) (λ h. absurd (omega (arith, h))) (λ h. absurd (omega (arith, h))) lower
+      (omega arith)
 
 -- ---- the layout
 never_set : (n step : ℕ) → ¬ (IsSet (replicate n false) step)
@@ -245,10 +264,11 @@ module _ (s : Scene) (window : Window) (first last : ℕ) (from : first ≡ firs
       subst (λ (n : ℕ). Sets (IsStepOf step_of things (first_step s window) n) a b) to
       (subst (λ (n : ℕ). Sets (IsStepOf step_of things n last) a b) from h)
 
-  pub layout : (n : ℕ) (a b c d : List Bool) (ends : List ℕ) → a ≡ replicate n false → s.steps ≤ length a
+  pub layout : (n : ℕ) (a b c d : List Bool) (ends : List ℕ) (bottom : ℕ) → a ≡ replicate n false → s.steps ≤ length a
       → Sets (IsStepOfFrames s.passages.now window.first window.end) a b → Sets (IsStepOf mark_step s.marks.now first last) b c
-      → Sets (IsStepOf label_step s.labels.now first last) c d → StandWhereSet d ends → IsLayout s window ends
-  layout n a b c d ends empty steps frames marks_so labels_so stand =
+      → Sets (IsStepOf label_step s.labels.now first last) c d → StandWhereSet d ends bottom
+      → IsLayout s window ends bottom
+  layout n a b c d ends bottom empty steps frames marks_so labels_so stand =
       let marks = between mark_step s.marks.now b c marks_so in
       let labels = between label_step s.labels.now c d labels_so in record {
         stands = λ step below told. stand.stands step (elim told [
@@ -266,5 +286,5 @@ module _ (s : Scene) (window : Window) (first last : ℕ) (from : first ≡ firs
             ]
           ]
         ];
-        in_order = λ i j ordered h k. stand.in_order i j ordered h k;
+        stacked = stand.stacked;
       }

@@ -4,4 +4,4 @@ pub mod Drawings
 pub mod FlagLemmas
 pub mod ListLemmas
 pub mod ShownLemmas
-pub mod StrokeLemmas
+pub mod SignLemmas

@@ -1,12 +1,12 @@
 -- How the things of a picture are drawn.
-use Rattle.std.specs.Prelude.{◌≡◌, ℕ, ◌-◌, ◌≤◌, nat_lt, List, [], ◌∷◌, ◌++◌, codes, decimal, take, slice_get, Some, if◌then◌else◌}
+use Rattle.std.specs.Prelude.{◌≡◌, ℕ, ◌+◌, ◌-◌, ◌*◌, ◌^◌, ◌<◌, ◌≤◌, nat_lt, List, [], ◌∷◌, ◌++◌, codes, decimal, take, slice_get, Some, if◌then◌else◌}
 use Rattle.picture.specs.Elements.{closed, line_text, opened, words_text}
 use Rattle.picture.specs.declared.canvas.Place.{Place}
 use Rattle.wire.specs.declared.frames.envelope.Envelope.{Envelope}
 use Rattle.diagram.specs.Facts.{facts_of, kind_text}
-use Rattle.diagram.specs.Places.{down, lane}
-use Rattle.diagram.specs.Signs.{sign_text}
-use Rattle.diagram.specs.Strokes.{IsStroke}
+use Rattle.diagram.specs.Places.{Stands, down, further, lane}
+use Rattle.diagram.specs.Signs.{marks_at, sign_text}
+use Rattle.diagram.specs.Strokes.{stroke_text}
 use Rattle.diagram.specs.Titles.{title_text}
 use Rattle.diagram.specs.declared.arrows.Arrow.{Arrow}
 use Rattle.diagram.specs.declared.facts.Facts.{Facts}
@@ -45,34 +45,38 @@ pub record IsHead (frames nodes : ℕ) (window : Window) (text : List ℕ) : Typ
   pub is : text ≡ words_text (codes "head") (record { x = 1000; y = 1400 }) (heading window frames nodes)
       ++ words_text (codes "note") (record { x = 1000; y = 2400 }) meanings
 
--- the lane of a node, and the node's number above it
-pub record IsLane (nodes node : ℕ) (text : List ℕ) : Type 0 where
-  pub bottom : ℕ
-  pub is : text ≡ words_text (codes "head") (record { x = lane nodes node - 1200; y = 3600 }) (codes "node " ++ decimal node)
-      ++ line_text (codes "lane") (record { x = lane nodes node; y = 3800 }) (record { x = lane nodes node; y = bottom })
+-- the lane of a node down to the bottom, and the node's number above it
+abbrev pub lane_text : ℕ → ℕ → ℕ → List ℕ
+lane_text nodes bottom node = words_text (codes "head") (record { x = lane nodes node - 1200; y = 3600 }) (codes "node " ++ decimal node)
+    ++ line_text (codes "lane") (record { x = lane nodes node; y = 3800 }) (record { x = lane nodes node; y = bottom })
+
+abbrev pub IsLane : ℕ → ℕ → ℕ → List ℕ → Type 0
+IsLane nodes bottom node text = text ≡ lane_text nodes bottom node
 
 -- ---- the lines of the schedule
--- the first 56 bytes of a line, left of the lanes, not below its step
+-- the first 56 bytes of a line, left of the lanes, not below its step, and below the steps above that, unless it is at the greatest number
 pub record IsLine (ends : List ℕ) (label : Label) (text : List ℕ) : Type 0 where
   pub height : ℕ
   pub above : height ≤ down ends label.step
+  pub below : (i : ℕ) → i < label.step → Stands ends i → down ends label.step < 2 ^ 32 - 1 → down ends i + 450 ≤ height
   pub is : text ≡ words_text (codes "line") (record { x = 1000; y = height }) (take 56 label.text.items)
 
 -- ---- the frames
--- the kind of a frame, left of its sender's lane below the step at which it was sent; or nothing, where another word stands there
+-- the kind of a frame, left of its sender's lane below the step at which it was sent
+abbrev pub beside : ℕ → List ℕ → Arrow → Place
+beside nodes ends arrow = record { x = lane nodes arrow.from - 200; y = further (down ends arrow.sent) 600 }
+
+-- or nothing, where another word stands there
 pub data MayTell (nodes : ℕ) (ends : List ℕ) (arrow : Arrow) (kind : List ℕ) : List ℕ → Type 0 where
-  told : (beside : Place) → beside.x ≡ lane nodes arrow.from - 200 → down ends arrow.sent ≤ beside.y
-      → MayTell nodes ends arrow kind (words_text (codes "kind") beside kind)
+  told : MayTell nodes ends arrow kind (words_text (codes "kind") (beside nodes ends arrow) kind)
   untold : MayTell nodes ends arrow kind []
 
 -- a group with a frame's title and its line, and maybe its kind behind it
 pub record IsTold (nodes : ℕ) (ends : List ℕ) (arrow : Arrow) (facts : Facts) (text : List ℕ) : Type 0 where
   pub color : ℕ
-  pub stroke : List ℕ
-  pub drawn : IsStroke nodes ends arrow color stroke
   pub kind : List ℕ
   pub told : MayTell nodes ends arrow (kind_text facts.kind) kind
-  pub is : text ≡ group (codes "frame") (title_text arrow facts) stroke ++ kind
+  pub is : text ≡ group (codes "frame") (title_text arrow facts) (stroke_text nodes ends arrow color) ++ kind
 
 -- that of the frame of this number
 pub record IsFrame (s : Scene) (ends : List ℕ) (arrow : Arrow) (text : List ℕ) : Type 0 where
@@ -82,14 +86,16 @@ pub record IsFrame (s : Scene) (ends : List ℕ) (arrow : Arrow) (text : List �
 
 -- ---- the marks
 -- a group with a mark's title, its sign at a place, and its note right of that
-pub record IsMarkAt (sign : Place) (m : Mark) (text : List ℕ) : Type 0 where
-  pub note : Place
-  pub right : sign.x ≤ note.x
-  pub is : text ≡ group (codes "mark") m.title.items (sign_text m.sign sign ++ words_text (codes "note") note m.note.items)
+abbrev pub mark_text : Place → Mark → List ℕ
+mark_text sign m = group (codes "mark") m.title.items (sign_text m.sign sign
+    ++ words_text (codes "note") (record { x = further sign.x 350; y = sign.y - 60 }) m.note.items)
 
--- the sign stands at the height of its step, on the lane of its node or right of it, where others stand on the lane
-pub record IsMark (nodes : ℕ) (ends : List ℕ) (m : Mark) (text : List ℕ) : Type 0 where
-  pub sign : Place
-  pub right : lane nodes m.node ≤ sign.x
-  pub height : sign.y ≡ down ends m.step
-  pub there : IsMarkAt sign m text
+-- the place of a sign: at the height of its step, on the lane of its node, or right of it behind so many others
+abbrev pub sign_place : ℕ → List ℕ → Mark → ℕ → Place
+sign_place nodes ends m others = record { x = further (lane nodes m.node) (others * 3400); y = down ends m.step }
+
+-- there are fewer others than marks of its node at its step: so one that is alone stands on the lane
+pub record IsMark (nodes : ℕ) (marks : List Mark) (ends : List ℕ) (m : Mark) (text : List ℕ) : Type 0 where
+  pub others : ℕ
+  pub fewer : others < marks_at marks m.node m.step
+  pub is : text ≡ mark_text (sign_place nodes ends m others) m

@@ -1,5 +1,5 @@
 -- What a picture of a run shows.
-use Rattle.std.specs.Prelude.{◌≡◌, ℕ, ◌<◌, List, ◌++◌, length, slice_get, slice_index_or, Option, Some}
+use Rattle.std.specs.Prelude.{◌≡◌, ℕ, ◌*◌, ◌<◌, ◌≤◌, List, ◌++◌, length, slice_get, slice_index_or, Option, Some}
 use Rattle.std.specs.List.{range_with_len}
 use Rattle.picture.specs.Elements.{picture_begun, picture_ended}
 use Rattle.wire.specs.declared.frames.envelope.Envelope.{Envelope}
@@ -25,24 +25,26 @@ pub record DrawsFrames (s : Scene) (window : Window) (ends old new : List ℕ) :
   pub are : AreArrows s.frames.now s.waiting.now s.passages.now window.first window.end arrows
   pub drawn : Draws (IsFrame s ends) old arrows new
 
--- the text is a picture of so many units, in its style, with a place for each step of which it shows something: the head, the lanes, the
--- lines of the schedule, the frames, and the marks, and nothing else
+-- the text is a picture of so many units, in its style, with a place for each step of which it shows something, and high enough for all:
+-- the head, the lanes, as long as their steps, the lines of the schedule, the frames, and the marks, and nothing else
 pub record AreDrawn (s : Scene) (window : Window) (text : List ℕ) : Type 0 where
   pub width : ℕ
   pub height : ℕ
   pub style : List ℕ
   pub ends : List ℕ
-  pub layout : IsLayout s window ends
+  pub bottom : ℕ
+  pub layout : IsLayout s window ends bottom
+  pub high : bottom ≤ height * 100
   pub behind_head : List ℕ
   pub head : Adds (IsHead (length s.frames.now) s.nodes window) (picture_begun width height style) behind_head
   pub behind_lanes : List ℕ
-  pub lanes : Draws (IsLane s.nodes) behind_head (range_with_len 0 s.nodes) behind_lanes
+  pub lanes : Draws (IsLane s.nodes bottom) behind_head (range_with_len 0 s.nodes) behind_lanes
   pub behind_labels : List ℕ
   pub labels : DrawsStanding label_step (IsLine ends) ends s.labels.now behind_lanes behind_labels
   pub behind_frames : List ℕ
   pub frames : DrawsFrames s window ends behind_labels behind_frames
   pub body : List ℕ
-  pub marks : DrawsStanding mark_step (IsMark s.nodes ends) ends s.marks.now behind_frames body
+  pub marks : DrawsStanding mark_step (IsMark s.nodes s.marks.now ends) ends s.marks.now behind_frames body
   pub is : text ≡ body ++ picture_ended
 
 -- there is a flag and a passage for each frame

@@ -1,7 +1,7 @@
 -- Which steps of a run a picture shows, and which marks and lines.
 use Rattle.std.specs.Prelude.{◌≡◌, ◌==◌, ◌⊎◌, ℕ, ◌-◌, ◌<◌, ◌≤◌, nat_le, List, [], ◌∷◌, ◌++◌, length, slice_get, Bool, true, Option, Some, None, if◌then◌else◌}
 use Rattle.diagram.specs.Drawn.{Draws}
-use Rattle.diagram.specs.Places.{Stands, down}
+use Rattle.diagram.specs.Places.{Stands, down, further}
 use Rattle.diagram.specs.declared.arrows.Passage.{Passage}
 use Rattle.diagram.specs.declared.layout.Window.{Window}
 use Rattle.diagram.specs.declared.scene.Label.{Label}
@@ -68,11 +68,16 @@ pub data Tells (s : Scene) (window : Window) (step : ℕ) : Type 0 where
   label : IsStepOf label_step s.labels.now (first_step s window) (last_step s window) step → Tells s window step
 
 -- ---- the steps of a layout
--- each step of the run has a place of which the window shows something, and no other one. A later one stands no higher
-pub record IsLayout (s : Scene) (window : Window) (ends : List ℕ) : Type 0 where
+-- a later step stands lower, by half a line of text at least, and none below the bottom
+pub record AreStacked (ends : List ℕ) (bottom : ℕ) : Type 0 where
+  pub apart : (i j : ℕ) → i < j → Stands ends i → Stands ends j → further (down ends i) 450 ≤ down ends j
+  pub inside : (step : ℕ) → down ends step ≤ bottom
+
+-- each step of the run has a place of which the window shows something, and no other one
+pub record IsLayout (s : Scene) (window : Window) (ends : List ℕ) (bottom : ℕ) : Type 0 where
   pub stands : (step : ℕ) → step < s.steps → Tells s window step → Stands ends step
   pub tells : (step : ℕ) → Stands ends step → Tells s window step
-  pub in_order : (i j : ℕ) → i ≤ j → Stands ends i → Stands ends j → down ends i ≤ down ends j
+  pub stacked : AreStacked ends bottom
 
 -- behind the old text those things are drawn whose steps have a place
 pub record DrawsStanding {A : Type 0} (step_of : A → ℕ) (IsDrawn : A → List ℕ → Type 0) (ends : List ℕ) (things : List A) (old new : List ℕ)
@@ -99,7 +104,7 @@ pub record IsJust (this first last step : ℕ) : Type 0 where
   pub to : step ≤ last
 
 -- the steps whose flags are set have places, one below the other, and no others have
-pub record StandWhereSet (flags : List Bool) (ends : List ℕ) : Type 0 where
+pub record StandWhereSet (flags : List Bool) (ends : List ℕ) (bottom : ℕ) : Type 0 where
   pub stands : (step : ℕ) → IsSet flags step → Stands ends step
   pub set : (step : ℕ) → Stands ends step → IsSet flags step
-  pub in_order : (i j : ℕ) → i ≤ j → Stands ends i → Stands ends j → down ends i ≤ down ends j
+  pub stacked : AreStacked ends bottom

@@ -1,7 +1,9 @@
 -- The signs on the lanes.
-use Rattle.std.specs.Prelude.{ℕ, ◌-◌, List, codes}
+use Rattle.std.specs.Prelude.{◌==◌, ◌&&◌, ℕ, ◌-◌, ◌≤◌, List, slice_index_or, codes}
+use Rattle.std.specs.List.{count_by}
 use Rattle.picture.specs.Elements.{circle_text, rectangle_text}
 use Rattle.picture.specs.declared.canvas.Place.{Place}
+use Rattle.diagram.specs.declared.scene.Mark.{Mark}
 use Rattle.diagram.specs.declared.scene.Sign.{Sign}
 use Rattle.diagram.specs.declared.scene.Sign.TheVariants.{Submitted, TimedOut, Learnt, Replied, Answered, Lost, Refused, Stopped, Restarted, Restored, Other}
 
@@ -22,3 +24,12 @@ sign_text Restored at = square_text (codes "sign restored") at
 sign_text Submitted at = circle_text (codes "sign") at 150
 sign_text TimedOut at = circle_text (codes "sign") at 150
 sign_text Other at = circle_text (codes "sign") at 150
+
+-- ---- signs beside each other
+-- how many of these marks a node has at a step
+abbrev pub marks_at : List Mark → ℕ → ℕ → ℕ
+marks_at marks node step = count_by (λ m. m.node == node && m.step == step) marks
+
+-- on the lane of each node no more are counted than these marks are at the step
+pub record AreCounted (marks : List Mark) (step : ℕ) (lanes : List ℕ) : Type 0 where
+  pub each : (node : ℕ) → slice_index_or lanes node 0 ≤ marks_at marks node step

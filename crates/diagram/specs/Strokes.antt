@@ -1,9 +1,10 @@
 -- The line of a frame, by what became of it.
-use Rattle.std.specs.Prelude.{◌≡◌, ◌≢◌, ◌==◌, ℕ, ◌+◌, ◌*◌, ◌/◌, List, [], ◌∷◌, ◌++◌, codes, slice_index_or, if◌then◌else◌}
+use Rattle.std.specs.Prelude.{◌==◌, ℕ, ◌+◌, ◌*◌, ◌/◌, List, [], ◌∷◌, ◌++◌, codes, slice_index_or, if◌then◌else◌}
 use Rattle.picture.specs.Elements.{arrow_text, line_text}
 use Rattle.picture.specs.declared.canvas.Place.{Place}
-use Rattle.diagram.specs.Places.{lane, place}
+use Rattle.diagram.specs.Places.{down, further, lane, place}
 use Rattle.diagram.specs.declared.arrows.Arrow.{Arrow}
+use Rattle.diagram.specs.declared.arrows.Fate.{Fate}
 use Rattle.diagram.specs.declared.arrows.Fate.TheVariants.{Came, Dropped, Waits}
 
 -- eight colours for ballots, and one for a frame without a ballot
@@ -30,15 +31,34 @@ aim nodes arrow = if arrow.from == arrow.to then lane nodes arrow.from + 1000 el
 abbrev pub begin : ℕ → List ℕ → Arrow → Place
 begin nodes ends arrow = place nodes ends arrow.from arrow.sent
 
+-- where the line of a dropped frame ends: two thirds of the way, a little below the step at which it was sent
+abbrev pub dropped_end : ℕ → List ℕ → Arrow → Place
+dropped_end nodes ends arrow = record {
+  x = (lane nodes arrow.from + 2 * aim nodes arrow) / 3;
+  y = further (down ends arrow.sent) 300;
+}
+
+-- that of one that waits: at its aim, a little further down
+abbrev pub waiting_end : ℕ → List ℕ → Arrow → Place
+waiting_end nodes ends arrow = record { x = aim nodes arrow; y = further (down ends arrow.sent) 450 }
+
+-- where a frame from a node to itself turns back to the lane: halfway down to the step at which it came
+abbrev pub bend : ℕ → List ℕ → Arrow → ℕ → Place
+bend nodes ends arrow step = record { x = aim nodes arrow; y = (down ends arrow.sent + down ends step) / 2 }
+
 -- the line of a frame that came has its head on the receiver's lane, at the step at which it came; from a node to itself it goes off the
--- lane and back to it. That of a dropped one has no head, and ends two thirds of the way. That of one that waits has its head at its aim
-pub data IsStroke (nodes : ℕ) (ends : List ℕ) (arrow : Arrow) (color : ℕ) : List ℕ → Type 0 where
-  came : (step : ℕ) → arrow.fate ≡ Came step → arrow.from ≢ arrow.to
-      → IsStroke nodes ends arrow color (arrow_text (came_class color) (begin nodes ends arrow) (place nodes ends arrow.to step))
-  came_back : (step : ℕ) (bend : Place) → arrow.fate ≡ Came step → arrow.from ≡ arrow.to → bend.x ≡ aim nodes arrow
-      → IsStroke nodes ends arrow color (line_text (came_class color) (begin nodes ends arrow) bend
-      ++ arrow_text (came_class color) bend (place nodes ends arrow.to step))
-  dropped : (end : Place) → arrow.fate ≡ Dropped → end.x ≡ (lane nodes arrow.from + 2 * aim nodes arrow) / 3
-      → IsStroke nodes ends arrow color (line_text (lost_class color) (begin nodes ends arrow) end)
-  waits : (end : Place) → arrow.fate ≡ Waits → end.x ≡ aim nodes arrow
-      → IsStroke nodes ends arrow color (arrow_text (waits_class color) (begin nodes ends arrow) end)
+-- lane and back to it
+abbrev pub came_text : ℕ → List ℕ → Arrow → ℕ → ℕ → List ℕ
+came_text nodes ends arrow step color = if arrow.from == arrow.to
+    then line_text (came_class color) (begin nodes ends arrow) (bend nodes ends arrow step)
+    ++ arrow_text (came_class color) (bend nodes ends arrow step) (place nodes ends arrow.to step)
+    else arrow_text (came_class color) (begin nodes ends arrow) (place nodes ends arrow.to step)
+
+-- that of a dropped one has no head, and that of one that waits has its head at its end
+abbrev pub fate_stroke : Fate → ℕ → List ℕ → Arrow → ℕ → List ℕ
+fate_stroke (Came step) nodes ends arrow color = came_text nodes ends arrow step color
+fate_stroke Dropped nodes ends arrow color = line_text (lost_class color) (begin nodes ends arrow) (dropped_end nodes ends arrow)
+fate_stroke Waits nodes ends arrow color = arrow_text (waits_class color) (begin nodes ends arrow) (waiting_end nodes ends arrow)
+
+abbrev pub stroke_text : ℕ → List ℕ → Arrow → ℕ → List ℕ
+stroke_text nodes ends arrow color = fate_stroke arrow.fate nodes ends arrow color

@@ -1,7 +1,7 @@
 //! Which frames are drawn, and how high each step stands.
 
-ghost use Rattle.std.specs.Prelude.{◌≡◌, ◌+◌, ◌<◌, ◌≤◌, length, slice_index_or, if◌then◌else◌, IfOk};
-ghost use Rattle.diagram.specs.Places.{down};
+ghost use Rattle.std.specs.Prelude.{◌≡◌, ℕ, ◌+◌, ◌-◌, ◌*◌, ◌^◌, ◌<◌, ◌≤◌, max, min, length, slice_index_or, if◌then◌else◌, IfOk, IsTrue};
+ghost use Rattle.diagram.specs.Places.{HaveRoom, Stands, down, further};
 ghost use Rattle.diagram.specs.Shown.{IsJust, IsLayout, IsStepOf, IsStepOfFrames, IsStepOfPassage, Sets, StandWhereSet, first_step, label_step, last_step, mark_step, sent_at};
 ghost use Rattle.diagram.specs.Windows.{IsChosen, IsWindowOf};
 
@@ -39,6 +39,7 @@ pub(crate) struct Layout {
     pub texts: Vec<u32>,
     pub ends: Vec<u32>,
     pub height: u32,
+    ghost room: { HaveRoom texts.items ends.items },
 }
 
 /// The frames that are drawn: from `from`, or the first one, to `to`, or the last one; of more than a picture shows, and of more than fit
@@ -86,7 +87,7 @@ fn fit_page(alloc: Global, scene: &Scene, first: usize, most: usize) -> Result<W
 /// How high the steps stand of which the window shows something.
 pub(crate) fn lay_out(alloc: Global, scene: &Scene, window: Window) -> Result<Layout, AllocError>
     requires { window.first ≤ window.end }
-    ensures { IfOk result (λ layout. IsLayout scene.now window layout.ends.items) }
+    ensures { IfOk result (λ layout. IsLayout scene.now window layout.ends.items layout.height) }
 {
     let mut texts = vec![in alloc; 0u32; scene.steps.saturating_add(1)]?;
     let mut shown = vec![in alloc; false; scene.steps.saturating_add(1)]?;
@@ -212,7 +213,7 @@ fn add_text(texts: &mut Vec<u32>, index: usize, is_shown: bool)
 /// The steps that are shown, one below the other.
 fn stack(alloc: Global, texts: Vec<u32>, shown: Vec<bool>) -> Result<Layout, AllocError>
     requires { length texts.items ≡ length shown.items }
-    ensures { IfOk result (λ layout. StandWhereSet shown.items layout.ends.items) }
+    ensures { IfOk result (λ layout. StandWhereSet shown.items layout.ends.items layout.height) }
 {
     let bare = bare_row(texts.as_slice(), shown.as_slice());
     let mut ends = Vec::new(alloc);
@@ -231,7 +232,8 @@ fn stack(alloc: Global, texts: Vec<u32>, shown: Vec<bool>) -> Result<Layout, All
 
 /// How far it is down to the end of a step that begins there, if it is shown.
 fn stand_below(height: u32, is_shown: bool, row: u32) -> u32
-    ensures { height ≤ result }
+    ensures lower { height ≤ result }
+    ensures shown { IsTrue is_shown → result ≡ further height row }
 {
     if is_shown {
         height.saturating_add(row)
@@ -248,7 +250,10 @@ fn place_if(is_shown: bool, height: u32) -> u32
 }
 
 /// The height of a step with so many lines of text.
-fn row_of(count: u32, bare: u32) -> u32 {
+fn row_of(count: u32, bare: u32) -> u32
+    requires { BARE_ROW ≤ bare }
+    ensures { max BARE_ROW (min (count * TEXT_ROW) (2 ^ 32 - 1)) ≤ result }
+{
     if count == 0 {
         bare
     } else {
@@ -257,7 +262,9 @@ fn row_of(count: u32, bare: u32) -> u32 {
 }
 
 /// The height of a step without text: as much as fills the page.
-fn bare_row(texts: &[u32], shown: &[bool]) -> u32 {
+fn bare_row(texts: &[u32], shown: &[bool]) -> u32
+    ensures { BARE_ROW ≤ result }
+{
     let mut text_height = TOP;
     let mut bare = 0u32;
     for (count, is_shown) in texts.iter().zip(shown.iter()) {
@@ -282,11 +289,19 @@ impl Layout {
 
     /// Where the line of text stands that has so many others of its step before it.
     pub fn text_place(&self, step: usize, before: u32) -> u32
-        ensures { result ≤ down self.now.ends.items step }
+        ensures above { result ≤ down self.now.ends.items step }
+        ensures below { let ends = self.now.ends.items in (i : ℕ) → i < step → Stands ends i → Stands ends step
+            → down ends step < 2 ^ 32 - 1 → down ends i + 450 ≤ result }
     {
-        let count = self.texts.get(step).copied().unwrap_or(0);
-        let below = count.saturating_sub(before.saturating_add(1));
+        let below = self.texts_of(step).saturating_sub(before.saturating_add(1));
         self.place_of(step)
             .saturating_sub(below.saturating_mul(TEXT_ROW))
+    }
+
+    /// How many lines of text a step has.
+    fn texts_of(&self, step: usize) -> u32
+        ensures { result ≡ slice_index_or self.now.texts.items step 0 }
+    {
+        self.texts.get(step).copied().unwrap_or(0)
     }
 }

@@ -1,63 +1,80 @@
 //! The signs of a picture, on the lanes of nodes.
 
-ghost use Rattle.std.specs.Prelude.{◌≡◌, ◌++◌, OnOk};
-ghost use Rattle.diagram.specs.Drawn.{Adds, IsMark, IsMarkAt};
-ghost use Rattle.diagram.specs.Places.{Stands};
+ghost use Rattle.std.specs.Prelude.{◌≡◌, ◌++◌, List, slice_index_or, slice_set, OnOk};
+ghost use Rattle.diagram.specs.Drawn.{IsMark, mark_text, sign_place};
+ghost use Rattle.diagram.specs.Places.{Stands, further};
 ghost use Rattle.diagram.specs.Shown.{DrawsStanding, mark_step};
-ghost use Rattle.diagram.specs.Signs.{sign_text, square_text};
+ghost use Rattle.diagram.specs.Signs.{AreCounted, sign_text, square_text};
 
 use super::layout::Layout;
 use super::places::lane;
 use super::scene::{Mark, Scene, Sign};
 use picture::{Picture, Place};
 use std::io;
+use wire::NodeId;
 
 /// The distance of two signs of one node at one step.
 const SIGNS: u32 = 3_400;
 
 /// The signs on the lanes. Several of one node at one step stand beside each other.
 pub(crate) fn draw_marks(picture: &mut Picture, scene: &Scene, layout: &Layout) -> io::Result<()>
-    ensures { let ends = layout.now.ends.items in
-        OnOk result (DrawsStanding mark_step (IsMark scene.now.nodes ends) ends scene.now.marks.now picture.old picture.new) }
+    ensures { let ends = layout.now.ends.items in let marks = scene.now.marks.now in
+        OnOk result (DrawsStanding mark_step (IsMark scene.now.nodes marks ends) ends marks picture.old picture.new) }
 {
     let mut step = 0;
     let mut lanes = [0u32; 7];
     for mark in scene.marks {
-        if mark.step != step {
-            step = mark.step;
-            lanes = [0; 7];
-        }
-        draw_next(picture, scene.nodes, mark, layout, &mut lanes)?;
+        begin_step(&mut lanes, step, mark.step);
+        step = mark.step;
+        let others = count_sign(&mut lanes, mark.node);
+        draw_next(picture, scene.nodes, mark, others, layout)?;
     }
     Ok(())
 }
 
-/// The next sign, if its step is shown. So many stand on the lanes of its step already.
+/// None is counted yet at another step than the last one.
+fn begin_step(lanes: &mut [u32; 7], last: usize, step: usize)
+    ensures { (marks : List Mark) → AreCounted marks last lanes.old → AreCounted marks step lanes.new }
+{
+    if step != last {
+        *lanes = [0; 7];
+    }
+}
+
+/// Counts a sign on the lane of a node. So many were there before it.
+fn count_sign(lanes: &mut [u32; 7], node: NodeId) -> u32
+    ensures others { result ≡ slice_index_or lanes.old node 0 }
+    ensures counted { lanes.new ≡ slice_set lanes.old node (further result 1) }
+{
+    let lane = usize::from(node.value());
+    let others = lanes[lane];
+    lanes[lane] = others.saturating_add(1);
+    others
+}
+
+/// The next sign, behind so many others on the lane of its node, if its step is shown.
 fn draw_next(
     picture: &mut Picture,
     nodes: u8,
     mark: &Mark,
+    others: u32,
     layout: &Layout,
-    lanes: &mut [u32; 7],
 ) -> io::Result<()>
     ensures stands { let ends = layout.now.ends.items in
-        OnOk result (Stands ends mark.now.step → Adds (IsMark nodes ends mark.now) picture.old picture.new) }
+        OnOk result (Stands ends mark.now.step → picture.new ≡ picture.old ++ mark_text (sign_place nodes ends mark.now others) mark.now) }
     ensures left_out { OnOk result (¬ (Stands layout.now.ends.items mark.now.step) → picture.new ≡ picture.old) }
 {
     let y = layout.place_of(mark.step);
     if y == 0 {
         return Ok(());
     }
-    let node = mark.node.value();
-    let before = lanes[usize::from(node)];
-    lanes[usize::from(node)] = before.saturating_add(1);
-    let x = lane(nodes, node).saturating_add(before.saturating_mul(SIGNS));
+    let x = lane(nodes, mark.node.value()).saturating_add(others.saturating_mul(SIGNS));
     draw_mark(picture, mark, x, y)
 }
 
 /// A sign, and its note.
 fn draw_mark(picture: &mut Picture, mark: &Mark, x: u32, y: u32) -> io::Result<()>
-    ensures { OnOk result (Adds (IsMarkAt (record { x = x; y = y }) mark.now) picture.old picture.new) }
+    ensures { OnOk result (picture.new ≡ picture.old ++ mark_text (record { x = x; y = y }) mark.now) }
 {
     picture.open(b"mark", mark.title.as_slice())?;
     draw_sign(picture, mark.sign, Place { x, y })?;

@@ -2,7 +2,7 @@
 
 ghost use Rattle.std.specs.Prelude.{◌≡◌, ◌++◌, IfOk, OnOk, length, take};
 ghost use Rattle.std.specs.List.{range_with_len};
-ghost use Rattle.diagram.specs.Drawn.{Adds, Draws, IsHead, IsLane, IsLine, heading};
+ghost use Rattle.diagram.specs.Drawn.{Adds, Draws, IsHead, IsLane, IsLine, heading, lane_text};
 ghost use Rattle.diagram.specs.Pictures.{ShowsAsked};
 ghost use Rattle.diagram.specs.Places.{Stands};
 ghost use Rattle.diagram.specs.Shown.{DrawsStanding, label_step};
@@ -82,9 +82,9 @@ fn push_heading(text: &mut Vec<u8>, window: Window, frames: usize, nodes: u8) ->
     }
 }
 
-/// A lane for each node, from top to bottom.
+/// A lane for each node, down to this height.
 fn draw_lanes(alloc: Global, picture: &mut Picture, nodes: u8, height: u32) -> io::Result<()>
-    ensures { OnOk result (Draws (IsLane nodes) picture.old (range_with_len 0 nodes) picture.new) }
+    ensures { OnOk result (Draws (IsLane nodes height) picture.old (range_with_len 0 nodes) picture.new) }
 {
     for node in 0..nodes {
         draw_lane(alloc, picture, nodes, node, height)?;
@@ -100,7 +100,7 @@ fn draw_lane(
     node: u8,
     height: u32,
 ) -> io::Result<()>
-    ensures { OnOk result (Adds (IsLane nodes node) picture.old picture.new) }
+    ensures { OnOk result (picture.new ≡ picture.old ++ lane_text nodes height node) }
 {
     let x = lane(nodes, node);
     let mut name = Vec::new(alloc);

@@ -1,8 +1,7 @@
 //! The line of a frame, by what became of it.
 
-ghost use Rattle.std.specs.Prelude.{◌≡◌, ◌<◌, ◌^◌, OnOk};
-ghost use Rattle.diagram.specs.Drawn.{Adds};
-ghost use Rattle.diagram.specs.Strokes.{IsStroke, aim};
+ghost use Rattle.std.specs.Prelude.{◌≡◌, ◌++◌, ◌<◌, ◌^◌, OnOk};
+ghost use Rattle.diagram.specs.Strokes.{aim, came_text, dropped_end, stroke_text, waiting_end};
 
 use super::arrows::{Arrow, Fate};
 use super::colors::{came_class, lost_class, waits_class};
@@ -14,7 +13,7 @@ use std::io;
 /// How far a frame from a node to itself goes off the lane, in which it would lie.
 const BEND: u32 = 1_000;
 
-/// The line of a frame: whole where it came, else dashed, and where it was dropped two thirds of the way.
+/// The line of a frame: whole where it came, else dashed, and where it was dropped two thirds of the way and without a head.
 pub(crate) fn draw_arrow(
     picture: &mut Picture,
     nodes: u8,
@@ -22,12 +21,13 @@ pub(crate) fn draw_arrow(
     color: usize,
     layout: &Layout,
 ) -> io::Result<()>
-    ensures { OnOk result (Adds (IsStroke nodes layout.now.ends.items arrow.now color) picture.old picture.new) }
+    ensures { OnOk result (picture.new ≡ picture.old ++ stroke_text nodes layout.now.ends.items arrow.now color) }
 {
+    let begin = place(nodes, arrow.from, layout, arrow.sent);
     match arrow.fate {
         Fate::Came(step) => draw_whole(picture, nodes, arrow, step, color, layout),
-        Fate::Dropped => draw_lost(picture, nodes, arrow, color, layout),
-        Fate::Waits => draw_waiting(picture, nodes, arrow, color, layout),
+        Fate::Dropped => picture.line(lost_class(color), begin, dropped_end(nodes, arrow, layout)),
+        Fate::Waits => picture.arrow(waits_class(color), begin, waiting_end(nodes, arrow, layout)),
     }
 }
 
@@ -40,8 +40,7 @@ fn draw_whole(
     color: usize,
     layout: &Layout,
 ) -> io::Result<()>
-    requires { arrow.now.fate ≡ Fate.Came step }
-    ensures { OnOk result (Adds (IsStroke nodes layout.now.ends.items arrow.now color) picture.old picture.new) }
+    ensures { OnOk result (picture.new ≡ picture.old ++ came_text nodes layout.now.ends.items arrow.now step color) }
 {
     let begin = place(nodes, arrow.from, layout, arrow.sent);
     let end = place(nodes, arrow.to, layout, step);
@@ -57,42 +56,24 @@ fn draw_whole(
     picture.arrow(class, bend, end)
 }
 
-/// The line of a frame that was dropped.
-fn draw_lost(
-    picture: &mut Picture,
-    nodes: u8,
-    arrow: &Arrow,
-    color: usize,
-    layout: &Layout,
-) -> io::Result<()>
-    requires { arrow.now.fate ≡ Fate.Dropped }
-    ensures { OnOk result (Adds (IsStroke nodes layout.now.ends.items arrow.now color) picture.old picture.new) }
+/// Where the line of a frame ends that was dropped: two thirds of the way.
+fn dropped_end(nodes: u8, arrow: &Arrow, layout: &Layout) -> Place
+    ensures { result ≡ dropped_end nodes layout.now.ends.items arrow.now }
 {
-    let begin = place(nodes, arrow.from, layout, arrow.sent);
-    let end = Place {
+    Place {
         x: (lane(nodes, arrow.from.value()) + 2 * aim(nodes, arrow)) / 3,
-        y: begin.y.saturating_add(300),
-    };
-    picture.line(lost_class(color), begin, end)
+        y: layout.place_of(arrow.sent).saturating_add(300),
+    }
 }
 
-/// The line of a frame that waits.
-fn draw_waiting(
-    picture: &mut Picture,
-    nodes: u8,
-    arrow: &Arrow,
-    color: usize,
-    layout: &Layout,
-) -> io::Result<()>
-    requires { arrow.now.fate ≡ Fate.Waits }
-    ensures { OnOk result (Adds (IsStroke nodes layout.now.ends.items arrow.now color) picture.old picture.new) }
+/// Where that of a frame ends that waits.
+fn waiting_end(nodes: u8, arrow: &Arrow, layout: &Layout) -> Place
+    ensures { result ≡ waiting_end nodes layout.now.ends.items arrow.now }
 {
-    let begin = place(nodes, arrow.from, layout, arrow.sent);
-    let end = Place {
+    Place {
         x: aim(nodes, arrow),
-        y: begin.y.saturating_add(450),
-    };
-    picture.arrow(waits_class(color), begin, end)
+        y: layout.place_of(arrow.sent).saturating_add(450),
+    }
 }
 
 /// Where the line of a frame goes: to its receiver's lane, and beside it where that is its sender's.

@@ -13,10 +13,10 @@ returns c =
     let n = c.saturating_add-2.result in
     let empty : c.in_ok-shown.shown.items ≡ replicate n false = c.in_ok-shown.ensures.items_if_clones_equal (λ y e. e) in
     let steps : s.steps ≤ length c.in_ok-shown.shown.items = omega (arith, ap length empty, length-replicate n false) in
-    IfOk-weaker c.stack.result (λ (l : Layout). StandWhereSet c.show_labels.new.shown.items l.ends.items)
-    (λ (l : Layout). IsLayout s c.args.window l.ends.items)
+    IfOk-weaker c.stack.result (λ (l : Layout). StandWhereSet c.show_labels.new.shown.items l.ends.items l.height)
+    (λ (l : Layout). IsLayout s c.args.window l.ends.items l.height)
     (λ l stand.
     layout s c.args.window c.steps_of-first.result.0 c.steps_of-first.result.1 c.steps_of-first.ensures.first c.steps_of-first.ensures.last
-    n c.in_ok-shown.shown.items c.show_passages.new.shown.items c.show_marks.new.shown.items c.show_labels.new.shown.items l.ends.items empty
-    steps c.show_passages.ensures c.show_marks.ensures c.show_labels.ensures.shown stand)
+    n c.in_ok-shown.shown.items c.show_passages.new.shown.items c.show_marks.new.shown.items c.show_labels.new.shown.items l.ends.items
+    l.height empty steps c.show_passages.ensures c.show_marks.ensures c.show_labels.ensures.shown stand)
     c.stack.ensures

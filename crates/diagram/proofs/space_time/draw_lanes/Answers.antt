@@ -7,4 +7,4 @@ loop-node-init c = none
 
 pub loop-node-preserved : goal.loop-node-preserved
 loop-node-preserved c =
-    one_more_lane c.args.nodes c.loop-node.node c.args.picture.now c.loop-node.picture _ c.loop-node.invariant c.in_ok-draw_lane.ensures
+    one_more_lane c.args.nodes c.args.height c.loop-node.node c.args.picture.now c.loop-node.picture _ c.loop-node.invariant c.in_ok-draw_lane.ensures
