@@ -7,8 +7,8 @@ ghost use Rattle.verdicts.specs.Execution.{IsContradiction};
 ghost use Rattle.verdicts.specs.Explaining.{position_of};
 ghost use Rattle.verdicts.specs.Placement.{SlotIsSubmitted};
 ghost use Rattle.verdicts.specs.RequestIndex.{IsIndexed, IsOf};
-ghost use Rattle.verdicts.specs.Search.{AreLearnt, AreManyTried, AreOperations, AreUnlike, HasTried, IsListed, IsNext, IsOperation, IsTried, IsUnlisted, branches_at, IsExtended, IsStop, IsBehind, IsWithin, IsEntering, IsLeaving, IsSolved, IsOutcome, AfterStep};
-ghost use Rattle.verdicts.specs.Verdicts.{RestsOn};
+ghost use Rattle.verdicts.specs.Search.{AreLearnt, AreOperations, AreUnlike, HasTried, IsListed, IsNext, IsOperation, IsTried, IsUnlisted, branches_at, IsExtended, IsStop, IsBehind, IsWithin, IsEntering, IsLeaving, IsSolved, IsOutcome, AfterStep};
+ghost use Rattle.verdicts.specs.Verdicts.{AreOpen};
 ghost use Rattle.verdicts.specs.declared.lines.Name.{Name as AName};
 ghost use Rattle.verdicts.specs.declared.lines.Question.{Question as AQuestion};
 ghost use Rattle.verdicts.specs.declared.lines.ToldLine.{ToldLine as ALine};
@@ -161,12 +161,12 @@ impl Search {
         ensures leaving { OnOk result ((names : List (Option AName)) (questions : List AQuestion) (told : List ALine)
             → IsEntering requests.now names questions told self.old
             → IsStop requests.now names (length self.old.commands.items) choice
-            → length self.old.commands.items < length names
-            → Any (λ (line : ALine). RestsOn (length self.old.commands.items) line.told) told
+            → AreOpen questions (length names) told self.old.commands.items
             → IsLeaving requests.now names questions told self.new) }
         ensures tried { OnOk result ((names : List (Option AName)) (questions : List AQuestion) (told : List ALine) (count : ℕ)
             → IsNext requests.now names questions told count self.old.commands.items self.old.untried.items
             → IsTried requests.now names questions told self.old.commands.items
+            → AreOpen questions (length names) told self.old.commands.items
             → HasTried requests.now names questions told (count + 1) self.new.commands.items self.new.untried.items) }
     {
         let slot = self.commands.len();
@@ -211,7 +211,8 @@ impl Search {
         requires within { IsWithin told.now self.now.latest }
         ensures { (names : List (Option AName)) (questions : List AQuestion)
             → IsLeaving requests.now names questions told.now self.now
-            → (self.now.untried.items ≢ [] → AreManyTried requests.now names questions told.now)
+            → (self.now.untried.items ≢ [] → (count : ℕ) × (65536 < count)
+            × HasTried requests.now names questions told.now count self.now.commands.items self.now.untried.items)
             → IsOutcome requests.now names questions told.now result }
     {
         let next = self.untried.last().copied();
@@ -254,7 +255,7 @@ fn extend(
     requires submitted { All (SlotIsSubmitted requests.now) names.now }
     requires within { length commands.old.items ≤ length names.now }
     ensures extended { OnOk result (IsExtended requests.now names.now commands.old.items commands.new.items) }
-    ensures learnt { OnOk result (AreLearnt names.now commands.old.items → AreLearnt names.now commands.new.items) }
+    ensures learnt { OnOk result (AreLearnt names.now (length commands.old.items) → AreLearnt names.now (length commands.new.items)) }
     ensures stops { IfOk result (IsStop requests.now names.now (length commands.new.items)) }
 {
     while commands.len() < names.len() {
