@@ -1,5 +1,5 @@
 -- Which lists of commands a search among choices has left behind, and what comes of it.
-use Rattle.std.specs.Prelude.{◌≡◌, ◌≢◌, ℕ, ◌+◌, ◌<◌, ◌≤◌, List, [], ◌∷◌, length, map, take, slice_get, All, AllPairs, Any, Contains, Option, Some, None, Bool, true, false}
+use Rattle.std.specs.Prelude.{◌≡◌, ◌≢◌, ℕ, ◌+◌, ◌-◌, ◌<◌, ◌≤◌, ◌==◌, ◌&&◌, count_by, List, [], ◌∷◌, length, map, take, slice_get, All, AllPairs, Any, Contains, Option, Some, None, Bool, true, false}
 use Rattle.std.specs.Option.{option_map}
 use Rattle.sessions.specs.declared.submission.Submission.{Submission}
 use Rattle.sessions.specs.declared.command.Command.{Command}
@@ -68,6 +68,28 @@ IsUnlisted requests places r = All (λ (place : ℕ). slice_get requests place �
 abbrev pub AreUnlike : List Submission → List ℕ → Type 0
 AreUnlike requests places = AllPairs (λ (a b : ℕ). slice_get requests a ≢ slice_get requests b) places
 
+-- ---- the order of choices
+abbrev pub is_known_by : ℕ → ℕ → Submission → Bool
+is_known_by client number r = (r.client == client) && (r.number == number)
+
+-- the command is a request that is known so
+abbrev pub is_command_of : ℕ → ℕ → Command → Bool
+is_command_of client number command.NoOp = false
+is_command_of client number (command.Request r) = is_known_by client number r
+
+-- at the place stands a request of the client and number, and before it so many others of them
+pub record StandsBehind (requests : List Submission) (client number before place : ℕ) : Type 0 where
+  pub operation : IsOperation requests client number place
+  pub others : count_by (is_known_by client number) (take place requests) ≡ before
+
+-- where there are more requests of the client and number than the commands have, the last place is that of the first one more
+abbrev pub IsLikeliestLast : List Submission → List Command → ℕ → ℕ → List ℕ → Type 0
+IsLikeliestLast requests commands client number places =
+    count_by (is_command_of client number) commands < count_by (is_known_by client number) requests
+    → (place : ℕ) × StandsBehind requests client number (count_by (is_command_of client number) commands) place
+    × (slice_get places (length places - 1) ≡ Some place)
+
+-- ---- choices at slots
 -- the slot has the name of requests with several operations, and this is one of them; the commands reach the slot
 pub record IsChoice (requests : List Submission) (names : List (Option Name)) (reached : ℕ) (b : Branch) : Type 0 where
   pub request : Submission
@@ -238,6 +260,13 @@ pub record IsUndecided (requests : List Submission) (names : List (Option Name))
   pub slot : ℕ
   pub named : slice_get names slot ≡ Some (Some (Request client number))
   pub ambiguous : IsAmbiguous requests client number
+
+-- more than 65,536 choices were tried
+pub record HasTriedMany (requests : List Submission) (names : List (Option Name)) (questions : List Question) (told : List ToldLine)
+    (commands : List Command) (untried : List Branch) : Type 0 where
+  pub count : ℕ
+  pub many : 65536 < count
+  pub has_tried : HasTried requests names questions told count commands untried
 
 -- more than 65,536 choices were tried, and these commands, which have a request of the client and number, are a further one
 pub record AreManyTried (requests : List Submission) (names : List (Option Name)) (questions : List Question) (told : List ToldLine)

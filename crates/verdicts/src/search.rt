@@ -1,13 +1,13 @@
 //! Choices among the operations of requests that were submitted with several.
 
-ghost use Rattle.std.specs.Prelude.{◌≡◌, ◌≢◌, ◌≤◌, ◌<◌, ◌+◌, ◌++◌, ◌↔◌, [], ℕ, List, Option, All, Any, Contains, IfOk, OnOk, IsTrue, length, slice_get, Some, true, false, IfSome};
+ghost use Rattle.std.specs.Prelude.{◌≡◌, ◌≢◌, ◌≤◌, ◌<◌, ◌+◌, ◌++◌, ◌↔◌, [], ℕ, List, Option, All, Any, Contains, IfOk, OnOk, IsTrue, length, slice_get, take, count_by, ◌∷◌, MatchOption, Some, true, false};
 ghost use Rattle.store.specs.Operations.{OpIsValid};
 ghost use Rattle.sessions.specs.declared.submission.Submission.{Submission};
 ghost use Rattle.verdicts.specs.Execution.{IsContradiction};
 ghost use Rattle.verdicts.specs.Explaining.{position_of};
 ghost use Rattle.verdicts.specs.Placement.{SlotIsSubmitted};
 ghost use Rattle.verdicts.specs.RequestIndex.{IsIndexed, IsOf};
-ghost use Rattle.verdicts.specs.Search.{AreLearnt, AreOperations, AreUnlike, HasTried, IsListed, IsNext, IsOperation, IsTried, IsUnlisted, branches_at, IsExtended, IsStop, IsBehind, IsWithin, IsEntering, IsLeaving, IsSolved, IsOutcome, AfterStep};
+ghost use Rattle.verdicts.specs.Search.{AreLearnt, AreOperations, AreUnlike, HasTried, HasTriedMany, IsLikeliestLast, IsListed, IsNext, IsOperation, IsTried, IsUnlisted, StandsBehind, branches_at, is_command_of, is_known_by, IsExtended, IsStop, IsBehind, IsWithin, IsEntering, IsLeaving, IsSolved, IsOutcome, AfterStep};
 ghost use Rattle.verdicts.specs.Verdicts.{AreOpen};
 ghost use Rattle.verdicts.specs.declared.lines.Name.{Name as AName};
 ghost use Rattle.verdicts.specs.declared.lines.Question.{Question as AQuestion};
@@ -211,8 +211,8 @@ impl Search {
         requires within { IsWithin told.now self.now.latest }
         ensures { (names : List (Option AName)) (questions : List AQuestion)
             → IsLeaving requests.now names questions told.now self.now
-            → (self.now.untried.items ≢ [] → (count : ℕ) × (65536 < count)
-            × HasTried requests.now names questions told.now count self.now.commands.items self.now.untried.items)
+            → (self.now.untried.items ≢ []
+            → HasTriedMany requests.now names questions told.now self.now.commands.items self.now.untried.items)
             → IsOutcome requests.now names questions told.now result }
     {
         let next = self.untried.last().copied();
@@ -282,6 +282,7 @@ fn choices_at(
 ) -> Result<Vec<usize>, AllocError>
     ensures operations { IfOk result (λ places. AreOperations requests.now client number places.items) }
     ensures unlike { IfOk result (λ places. AreUnlike requests.now places.items) }
+    ensures likeliest { IfOk result (λ places. IsLikeliestLast requests.now commands.now client number places.items) }
 {
     let before = count_of(commands, client, number);
     let mut places = likeliest(alloc, requests, client, number, before)?;
@@ -301,6 +302,8 @@ fn likeliest(
 ) -> Result<Vec<usize>, AllocError>
     ensures each { IfOk result (λ places. All (IsOperation requests.now client number) places.items) }
     ensures unlike { IfOk result (λ places. AreUnlike requests.now places.items) }
+    ensures likeliest { IfOk result (λ places. before < count_by (is_known_by client number) requests.now
+        → (place : ℕ) × StandsBehind requests.now client number before place × (places.items ≡ place ∷ [])) }
 {
     let mut places = Vec::new(alloc);
     match place_of(requests, client, number, before) {
@@ -314,7 +317,8 @@ fn likeliest(
 
 /// The place of the client's request of the number that is behind so many others.
 fn place_of(requests: &[Request], client: u8, number: u64, before: usize) -> Option<usize>
-    ensures { IfSome result (IsOperation requests.now client number) }
+    ensures { MatchOption result (count_by (is_known_by client number) requests.now ≤ before)
+        (StandsBehind requests.now client number before) }
 {
     let mut left = before;
     for place in 0..requests.len() {
@@ -329,21 +333,32 @@ fn place_of(requests: &[Request], client: u8, number: u64, before: usize) -> Opt
 }
 
 /// How many of the commands are the client's requests of the number.
-fn count_of(commands: &[Command], client: u8, number: u64) -> usize {
+fn count_of(commands: &[Command], client: u8, number: u64) -> usize
+    ensures { result ≡ count_by (is_command_of client number) commands.now }
+{
     let mut count: usize = 0;
     for command in commands {
-        if let Command::Request(request) = command {
-            if is_of(request, client, number) {
-                count = count.saturating_add(1);
-            }
+        if is_command_of(command, client, number) {
+            count += 1;
         }
     }
     count
 }
 
+/// Whether the command is the client's request of the number.
+fn is_command_of(command: &Command, client: u8, number: u64) -> bool
+    ensures { result ≡ is_command_of client number command.now }
+{
+    match command {
+        Command::NoOp => false,
+        Command::Request(request) => is_of(request, client, number),
+    }
+}
+
 /// Whether it is the client's request of the number.
 fn is_of(request: &Request, client: u8, number: u64) -> bool
-    ensures { IsTrue result ↔ IsOf client number request.now }
+    ensures is_of { IsTrue result ↔ IsOf client number request.now }
+    ensures known { result ≡ is_known_by client number request.now }
 {
     request.client() == client && request.number().value() == number
 }
@@ -359,6 +374,7 @@ fn add_operations(
     requires unlike { AreUnlike requests.now places.old.items }
     ensures operations { OnOk result (AreOperations requests.now client number places.new.items) }
     ensures unlike { OnOk result (AreUnlike requests.now places.new.items) }
+    ensures keeps { OnOk result (take (length places.old.items) places.new.items ≡ places.old.items) }
 {
     for (place, request) in requests.iter().enumerate() {
         if is_new(requests, places, request, client, number) {

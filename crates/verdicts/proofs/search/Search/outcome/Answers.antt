@@ -23,10 +23,10 @@ returns-in-Some c = λ names questions leaving many.
     All-contains (IsBehind c.args.requests.now) c.args.self.now.untried.items c.in-Some.branch c.requires.placed contained in
     let request_there = slice_get_read c.args.requests.now (length c.args.requests.now) c.in-Some.branch.place
     c.index-requests-branch.result refl within c.index-requests-branch.is in
-    let (count, more, has_tried) =
+    let more =
     many (λ empty. no_element c.in-Some.branch (subst (λ (bs : List Branch). Contains bs c.in-Some.branch) empty contained)) in
     let tried = last_left c.args.requests.now names questions c.args.told.now c.args.self.now leaving c.in-Some.branch
-    c.index-requests-branch.result there request_there count more has_tried in
+    c.index-requests-branch.result there request_there more.count more.many more.has_tried in
     rw c.undecided.ensures (
       choice_left c.args.requests.now names questions c.args.told.now c.args.self.now leaving c.in-Some.branch contained
           c.index-requests-branch.result request_there,
