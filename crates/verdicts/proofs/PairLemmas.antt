@@ -1,7 +1,8 @@
 -- What holds of each two elements of a list.
-use Rattle.std.proofs.Common.{◌≡◌, zero, suc, ◌-◌, ◌<◌, List, [], ◌∷◌, ◌++◌, length, get_or, map, reverse, All, AllPairs, Contains, sym, ap, subst, ◌∙◌, arith}
+use Rattle.std.proofs.Common.{◌≡◌, ℕ, zero, suc, Some, ◌-◌, ◌<◌, List, [], ◌∷◌, ◌++◌, length, get_or, slice_get, take, map, reverse, All, AllPairs, Contains, sym, ap, subst, ◌∙◌, arith}
 use Rattle.std.proofs.lemmas.List.{get_or-reverse, length-reverse}
 use Rattle.std.proofs.lemmas.List.Elements.{All-append, All-cons, All-head, All-map, All-nil, All-tail}
+use Rattle.std.proofs.lemmas.Option.{slice_get-get_or}
 use Rattle.verdicts.proofs.PlaceLemmas.{all_front, all_last}
 
 -- the same by recursion on the list
@@ -85,3 +86,19 @@ contains_reverse xs x (k, within, e) =
       omega (arith, within, same),
       get_or-reverse xs (length xs - 1 - k) x (omega (arith, within)) ∙ ap (λ i. get_or xs i x) back ∙ e,
     )
+
+first_last : {X : Type 0} (xs : List X) (x : X) → take 1 xs ≡ x ∷ [] → slice_get (reverse xs) (length (reverse xs) - 1) ≡ Some x
+first_last [] x e = absurd (let h : [] ≡ x ∷ [] = e in cc)
+first_last (y ∷ xs) x e =
+    let h : y ∷ [] ≡ x ∷ [] = e in
+    let size = length-reverse (y ∷ xs) in
+    let at : ℕ = length (reverse (y ∷ xs)) - 1 in
+    let below : at < length (y ∷ xs) = omega (arith, size) in
+    let first : length (y ∷ xs) - 1 - at ≡ zero = omega (arith, size) in
+    let same : y ≡ x = cc in
+    slice_get-get_or (reverse (y ∷ xs)) at x (omega (arith, size, below))
+    ∙ ap (λ z. Some z) (get_or-reverse (y ∷ xs) at x below ∙ ap (λ i. get_or (y ∷ xs) i x) first ∙ same)
+
+pub kept_last : {X : Type 0} (old new : List X) (x : X) → old ≡ x ∷ [] → take (length old) new ≡ old
+    → slice_get (reverse new) (length (reverse new) - 1) ≡ Some x
+kept_last old new x e kept = first_last new x (subst (λ l. take (length l) new ≡ l) e kept)

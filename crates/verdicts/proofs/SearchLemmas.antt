@@ -1,5 +1,5 @@
 -- How a search among choices goes on, and what it leaves behind.
-use Rattle.std.proofs.Common.{Global, Vec, ◌≡◌, ℕ, zero, suc, ◌+◌, ◌-◌, ◌<◌, ◌≤◌, ◌⊎◌, inl, inr, List, [], ◌∷◌, ◌++◌, length, map, min, take, set, All, Any, Contains, Option, Some, None, get_or, slice_get, refl, sym, ap, subst, ◌∙◌, arith}
+use Rattle.std.proofs.Common.{Global, Vec, ◌≡◌, ℕ, zero, suc, ◌+◌, ◌-◌, ◌<◌, ◌≤◌, ◌⊎◌, inl, inr, List, [], ◌∷◌, ◌++◌, length, map, min, take, set, All, Contains, Option, Some, None, get_or, slice_get, refl, sym, ap, subst, ◌∙◌, arith}
 use Rattle.std.proofs.Math.ListN.{length-set}
 use Rattle.std.proofs.lemmas.Bool.{cases_eq, cases_lt}
 use Rattle.std.proofs.lemmas.List.{append_assoc, map-append, take_all, take_more, length_push, length-take, length-take-le}
@@ -13,8 +13,8 @@ use Rattle.verdicts.specs.Execution.{IsContradiction, IsLater}
 use Rattle.verdicts.specs.Explaining.{IsAmong, HasTold, name_of}
 use Rattle.verdicts.specs.Placement.{IsOnly}
 use Rattle.verdicts.specs.RequestIndex.{IsAmbiguous, IsOf}
-use Rattle.verdicts.specs.Search.{IsPossible, HasAllTold, IsSolved, AreBegun, IsOperation, AreOperations, IsChoice, branch_at, branches_at, AreAscending, Follows, IsExtended, IsLatest, IsListed, IsBehind, IsWithin, IsRefuted, IsUnlearnt, IsLeft, is_refuted, is_untried, IsEntered, is_left, is_begun, IsSearch, IsEntering, IsLeaving, IsLast, IsUndecided}
-use Rattle.verdicts.specs.Verdicts.{BeginsWith, RestsOn}
+use Rattle.verdicts.specs.Search.{AreLearnt, IsPossible, HasAllTold, IsSolved, AreBegun, IsOperation, AreOperations, IsChoice, branch_at, branches_at, AreAscending, Follows, IsExtended, IsLatest, IsListed, IsBehind, IsWithin, IsRefuted, IsUnlearnt, IsLeft, is_refuted, is_untried, IsEntered, is_left, is_begun, IsSearch, IsEntering, IsLeaving, IsLast, IsUndecided}
+use Rattle.verdicts.specs.Verdicts.{AreOpen, BeginsWith}
 use Rattle.verdicts.specs.declared.examination.Contradiction.{Contradiction}
 use Rattle.verdicts.specs.declared.lines.Name.{Name}
 use Rattle.verdicts.specs.declared.lines.Name.TheVariants.{NoOp, Request}
@@ -25,7 +25,7 @@ use Rattle.verdicts.specs.declared.search.Search.{Search}
 use Rattle.verdicts.proofs.FindingLemmas.{take_take}
 use Rattle.verdicts.proofs.IndexLemmas.{contains_from_get}
 use Rattle.verdicts.proofs.NameLemmas.{same_client, same_number, same_name}
-use Rattle.verdicts.proofs.PlaceLemmas.{all_front, all_last, get_set_same, get_set_other, named_there}
+use Rattle.verdicts.proofs.PlaceLemmas.{all_front, all_last, get_set_same, get_set_other, named_there, not_both}
 
 -- ---- the first elements
 -- with the next one
@@ -147,6 +147,90 @@ module _ (requests : List Submission) (names : List (Option Name)) where
   kept_below : (old new : List Command) → IsExtended requests names old new → (n : ℕ) → n ≤ length old → take n new ≡ take n old
   kept_below old new ext n h = sym (take_take n (length old) new h) ∙ ap (λ (k : List Command). take n k) ext.keeps
 
+  -- ---- the request of a choice is taken
+  module _ (commands : List Command) (begun : AreBegun requests names commands) (b : Branch) (r : Submission) (new : List Command)
+      (choice : IsChoice requests names (length commands) b) (there : slice_get requests b.place ≡ Some r)
+      (now : new ≡ take b.slot commands ++ command.Request r ∷ []) where
+    pub same_request : (q : Submission) → slice_get requests b.place ≡ Some q → q ≡ r
+    same_request q h = let f : Some q ≡ Some r = sym h ∙ there in cc
+
+    named_so : slice_get names b.slot ≡ Some (Some (Request r.client r.number))
+    named_so =
+        subst (λ (q : Submission). slice_get names b.slot ≡ Some (Some (Request q.client q.number)))
+        (same_request choice.request choice.there) choice.named
+
+    pub size_now : length new ≡ b.slot + 1
+    size_now =
+        let taken : length (take b.slot commands) ≡ b.slot = length-take-le b.slot commands choice.within in
+        let pushed : length (take b.slot commands ++ command.Request r ∷ []) ≡ length (take b.slot commands) + 1 =
+        length_push (take b.slot commands) (command.Request r) in
+        let same : length new ≡ length (take b.slot commands ++ command.Request r ∷ []) = ap length now in
+        omega (arith, taken, pushed, same)
+
+    -- below the slot nothing changes
+    pub same_below : (n : ℕ) → n ≤ b.slot → take n new ≡ take n commands
+    same_below n h =
+        let taken : length (take b.slot commands) ≡ b.slot = length-take-le b.slot commands choice.within in
+        ap (λ (l : List Command). take n l) now
+        ∙ take_front n (take b.slot commands) (command.Request r ∷ []) (omega (arith, h, taken))
+        ∙ take_take n b.slot commands h
+
+    -- a list that has the request at the slot, and is else the same
+    abbrev old : List Command
+    old = begun.list
+
+    abbrev changed : List Command
+    changed = set old b.slot (command.Request r)
+
+    below : b.slot < length old
+    below =
+        let within : b.slot < length names = slice_get_within names b.slot (Some (Request r.client r.number)) named_so in
+        let size : length old ≡ length names = begun.possible.slots in
+        omega (arith, within, size)
+
+    named_still : (i : ℕ) (wanted : Name) → slice_get names i ≡ Some (Some wanted) → option_map name_of (slice_get changed i) ≡ Some wanted
+    named_still i wanted h = elim (cases_eq i b.slot) [
+      | inl same ↦
+          let f : Some (Some (Request r.client r.number)) ≡ Some (Some wanted) =
+          sym named_so ∙ subst (λ (j : ℕ). slice_get names j ≡ Some (Some wanted)) same h in
+          let g : Some (Request r.client r.number) ≡ Some wanted = cc in
+          ap (λ (j : ℕ). option_map name_of (slice_get changed j)) same
+          ∙ ap (λ (o : Option Command). option_map name_of o) (get_set_same old b.slot (command.Request r) below) ∙ g
+      | inr apart ↦
+          ap (λ (o : Option Command). option_map name_of o) (get_set_other old b.slot i (command.Request r) apart)
+          ∙ begun.possible.named i wanted h
+    ]
+
+    possible_still : IsPossible requests names changed
+    possible_still = record {
+      slots = length-set old b.slot (command.Request r) ∙ begun.possible.slots;
+      among = All-set (IsAmong requests) old b.slot (command.Request r) (contains_from_get requests b.place r there)
+          begun.possible.among;
+      named = named_still;
+    }
+
+    begins_still : take (length new) changed ≡ new
+    begins_still =
+        let front : take b.slot old ≡ take b.slot commands =
+        sym (take_take b.slot (length commands) old choice.within)
+        ∙ ap (λ (l : List Command). take b.slot l) begun.begins in
+        let count = size_now in
+        let size : length new ≡ suc b.slot = omega (arith, count) in
+        subst (λ (n : ℕ). take n changed ≡ new) (sym size)
+        (take_set old b.slot (command.Request r) below ∙ ap (λ (l : List Command). l ++ command.Request r ∷ []) front ∙ sym now)
+
+    pub begun_next : AreBegun requests names new
+    begun_next = record { list = changed; possible = possible_still; begins = begins_still }
+
+    pub learnt_next : AreLearnt names (length commands) → AreLearnt names (length new)
+    learnt_next was slot lower free = elim (cases_lt slot b.slot) [
+      | inl earlier ↦ let within = choice.within in was slot (omega (arith, earlier, within)) free
+      | inr upper ↦
+          let same : slot ≡ b.slot = omega (arith, upper, lower, size_now) in
+          not_both (slice_get names slot) (Request r.client r.number) free
+          (subst (λ (i : ℕ). slice_get names i ≡ Some (Some (Request r.client r.number))) (sym same) named_so)
+    ]
+
 -- a list that begins with the commands
 begins_with : (requests : List Submission) (names : List (Option Name)) (commands l : List Command) → IsPossible requests names l
     → take (length commands) l ≡ commands → BeginsWith (length names) commands l
@@ -168,7 +252,9 @@ refuted_earlier questions told (Some d) c l other h = λ all.
 
 module _ (requests : List Submission) (names : List (Option Name)) (questions : List Question) (told : List ToldLine) where
   -- ---- commands are added
-  module _ (s : Search) (new : Vec Command Global) (ext : IsExtended requests names s.commands.items new.items) (was : IsSearch requests names questions told s) where
+  module _ (s : Search) (new : Vec Command Global) (ext : IsExtended requests names s.commands.items new.items)
+      (learnt : AreLearnt names (length s.commands.items) → AreLearnt names (length new.items))
+      (was : IsSearch requests names questions told s) where
     choice_still : (b : Branch) → IsChoice requests names (length s.commands.items) b → IsChoice requests names (length new.items) b
     choice_still b h = record {
       request = h.request;
@@ -201,6 +287,7 @@ module _ (requests : List Submission) (names : List (Option Name)) (questions : 
     searching_still : IsSearch requests names questions told (record s { commands = new })
     searching_still = record {
       begun = extended_begun requests names s.commands.items new.items was.begun ext;
+      learnt = learnt was.learnt;
       choices = All-weaker (IsChoice requests names (length s.commands.items)) (IsChoice requests names (length new.items)) choice_still
           s.untried.items was.choices;
       ascending = was.ascending;
@@ -209,10 +296,10 @@ module _ (requests : List Submission) (names : List (Option Name)) (questions : 
     }
 
   pub entering_still : (s : Search) (new : Vec Command Global) → IsExtended requests names s.commands.items new.items
-      → IsEntering requests names questions told s → IsEntering requests names questions told (record s { commands = new })
-  entering_still s new ext e = record {
-    state = searching_still s new ext e.state;
-    entered = λ none l possible. entered_still s new ext e.state l possible (e.entered none l possible);
+      → (AreLearnt names (length s.commands.items) → AreLearnt names (length new.items)) → IsEntering requests names questions told s → IsEntering requests names questions told (record s { commands = new })
+  entering_still s new ext learnt e = record {
+    state = searching_still s new ext learnt e.state;
+    entered = λ none l possible. entered_still s new ext learnt e.state l possible (e.entered none l possible);
   }
 
   -- all lines are explained
@@ -249,6 +336,7 @@ module _ (requests : List Submission) (names : List (Option Name)) (questions : 
         record {
           state = record {
             begun = begun;
+            learnt = e.state.learnt;
             choices = e.state.choices;
             ascending = e.state.ascending;
             latest = (
@@ -277,18 +365,26 @@ module _ (requests : List Submission) (names : List (Option Name)) (questions : 
     }
 
   -- ---- a slot of which no line tells
-  pub leaving_unlearnt : (s : Search) (slot : ℕ) → IsEntering requests names questions told s → slice_get names slot ≡ Some None
-      → Any (λ (line : ToldLine). RestsOn slot line.told) told
-      → IsLeaving requests names questions told (record s { unlearnt = Some slot })
-  leaving_unlearnt s slot e free needed = record {
+  pub leaving_unlearnt : (s : Search) → IsEntering requests names questions told s
+      → slice_get names (length s.commands.items) ≡ Some None → AreOpen questions (length names) told s.commands.items
+      → IsLeaving requests names questions told (record s { unlearnt = Some (length s.commands.items) })
+  leaving_unlearnt s e free opened = record {
     state = record {
       begun = e.state.begun;
+      learnt = e.state.learnt;
       choices = e.state.choices;
       ascending = e.state.ascending;
       latest = e.state.latest;
-      unlearnt = (free, needed);
+      unlearnt = record {
+        unlearnt = free;
+        learnt = e.state.learnt;
+        commands = s.commands.items;
+        ends_there = refl;
+        begun = e.state.begun;
+        open_there = opened;
+      };
     };
-    left = λ none l possible. absurd (let h : Some slot ≡ None = none in cc);
+    left = λ none l possible. absurd (let h : Some (length s.commands.items) ≡ None = none in cc);
   }
 
   -- ---- choices are added
@@ -354,6 +450,7 @@ module _ (requests : List Submission) (names : List (Option Name)) (questions : 
     leaving_choices = record {
       state = record {
         begun = e.state.begun;
+        learnt = e.state.learnt;
         choices = choices_now;
         ascending = ascending_now;
         latest = e.state.latest;
@@ -379,80 +476,15 @@ module _ (requests : List Submission) (names : List (Option Name)) (questions : 
     choice : IsChoice requests names (length s.commands.items) b
     choice = all_last (IsChoice requests names (length s.commands.items)) rest.items b all_now
 
-    same_request : (q : Submission) → slice_get requests b.place ≡ Some q → q ≡ r
-    same_request q h = let f : Some q ≡ Some r = sym h ∙ there in cc
-
-    named_so : slice_get names b.slot ≡ Some (Some (Request r.client r.number))
-    named_so =
-        subst (λ (q : Submission). slice_get names b.slot ≡ Some (Some (Request q.client q.number)))
-        (same_request choice.request choice.there) choice.named
-
-    size_now : length new.items ≡ b.slot + 1
-    size_now =
-        let taken : length (take b.slot s.commands.items) ≡ b.slot = length-take-le b.slot s.commands.items choice.within in
-        let pushed : length (take b.slot s.commands.items ++ command.Request r ∷ []) ≡ length (take b.slot s.commands.items) + 1 =
-        length_push (take b.slot s.commands.items) (command.Request r) in
-        let same : length new.items ≡ length (take b.slot s.commands.items ++ command.Request r ∷ []) = ap length now in
-        omega (arith, taken, pushed, same)
-
-    -- below the slot nothing changes
-    same_below : (n : ℕ) → n ≤ b.slot → take n new.items ≡ take n s.commands.items
-    same_below n h =
-        let taken : length (take b.slot s.commands.items) ≡ b.slot = length-take-le b.slot s.commands.items choice.within in
-        ap (λ (l : List Command). take n l) now
-        ∙ take_front n (take b.slot s.commands.items) (command.Request r ∷ []) (omega (arith, h, taken))
-        ∙ take_take n b.slot s.commands.items h
-
-    -- a list that has the request at the slot, and is else the same
-    abbrev old : List Command
-    old = e.state.begun.list
-
-    abbrev changed : List Command
-    changed = set old b.slot (command.Request r)
-
-    below : b.slot < length old
-    below =
-        let within : b.slot < length names = slice_get_within names b.slot (Some (Request r.client r.number)) named_so in
-        let size : length old ≡ length names = e.state.begun.possible.slots in
-        omega (arith, within, size)
-
-    named_still : (i : ℕ) (wanted : Name) → slice_get names i ≡ Some (Some wanted) → option_map name_of (slice_get changed i) ≡ Some wanted
-    named_still i wanted h = elim (cases_eq i b.slot) [
-      | inl same ↦
-          let f : Some (Some (Request r.client r.number)) ≡ Some (Some wanted) =
-          sym named_so ∙ subst (λ (j : ℕ). slice_get names j ≡ Some (Some wanted)) same h in
-          let g : Some (Request r.client r.number) ≡ Some wanted = cc in
-          ap (λ (j : ℕ). option_map name_of (slice_get changed j)) same
-          ∙ ap (λ (o : Option Command). option_map name_of o) (get_set_same old b.slot (command.Request r) below) ∙ g
-      | inr apart ↦
-          ap (λ (o : Option Command). option_map name_of o) (get_set_other old b.slot i (command.Request r) apart)
-          ∙ e.state.begun.possible.named i wanted h
-    ]
-
-    possible_still : IsPossible requests names changed
-    possible_still = record {
-      slots = length-set old b.slot (command.Request r) ∙ e.state.begun.possible.slots;
-      among = All-set (IsAmong requests) old b.slot (command.Request r) (contains_from_get requests b.place r there)
-          e.state.begun.possible.among;
-      named = named_still;
-    }
-
-    begins_still : take (length new.items) changed ≡ new.items
-    begins_still =
-        let front : take b.slot old ≡ take b.slot s.commands.items =
-        sym (take_take b.slot (length s.commands.items) old choice.within)
-        ∙ ap (λ (l : List Command). take b.slot l) e.state.begun.begins in
-        let count = size_now in
-        let size : length new.items ≡ suc b.slot = omega (arith, count) in
-        subst (λ (n : ℕ). take n changed ≡ new.items) (sym size)
-        (take_set old b.slot (command.Request r) below ∙ ap (λ (l : List Command). l ++ command.Request r ∷ []) front ∙ sym now)
+    taken_size : length new.items ≡ b.slot + 1
+    taken_size = size_now requests names s.commands.items e.state.begun b r new.items choice there now
 
     choice_next : (c : Branch) → IsChoice requests names (length s.commands.items) c → IsUpTo b.slot c
         → IsChoice requests names (length new.items) c
     choice_next c h upto = record {
       request = h.request;
       there = h.there;
-      within = omega (arith, size_now, upto);
+      within = omega (arith, taken_size, upto);
       named = h.named;
       ambiguous = h.ambiguous;
     }
@@ -474,21 +506,22 @@ module _ (requests : List Submission) (names : List (Option Name)) (questions : 
           is_left (is_untried c earlier (record {
             request = f.request;
             there = f.there;
-            begins = f.begins ∙ sym (same_below c.slot upto);
+            begins = f.begins ∙ sym (same_below requests names s.commands.items e.state.begun b r new.items choice there now c.slot upto);
             takes = f.takes;
           }))
       | inr same ↦
           let g : Follows requests s.commands.items l b = subst (Follows requests s.commands.items l) (sym same) f in
           let here : slice_get l b.slot ≡ Some (command.Request r) =
-          g.takes ∙ ap (λ (q : Submission). Some (command.Request q)) (same_request g.request g.there) in
-          is_begun (subst (λ (n : ℕ). take n l ≡ new.items) (sym size_now)
+          g.takes ∙ ap (λ (q : Submission). Some (command.Request q)) (same_request requests names s.commands.items e.state.begun b r new.items choice there now g.request g.there) in
+          is_begun (subst (λ (n : ℕ). take n l ≡ new.items) (sym taken_size)
           (one_more l b.slot (command.Request r) here ∙ ap (λ (k : List Command). k ++ command.Request r ∷ []) g.begins ∙ sym now))
     ]
 
     pub entering_next : IsEntering requests names questions told (record s { commands = new; untried = rest })
     entering_next = record {
       state = record {
-        begun = record { list = changed; possible = possible_still; begins = begins_still };
+        begun = begun_next requests names s.commands.items e.state.begun b r new.items choice there now;
+        learnt = learnt_next requests names s.commands.items e.state.begun b r new.items choice there now e.state.learnt;
         choices = choices_next;
         ascending = ascending_front rest.items b order;
         latest = e.state.latest;
@@ -508,6 +541,7 @@ module _ (requests : List Submission) (names : List (Option Name)) (questions : 
   leaving_same s rest e is = record {
     state = record {
       begun = e.state.begun;
+      learnt = e.state.learnt;
       choices = subst (All (IsChoice requests names (length s.commands.items))) is e.state.choices;
       ascending = subst AreAscending is e.state.ascending;
       latest = e.state.latest;
@@ -603,11 +637,12 @@ pub entering_first : (requests : List Submission) (names : List (Option Name)) (
 entering_first requests names questions told s commands untried latest unlearnt (l, possible) = record {
   state = record {
     begun = record { list = l; possible = possible; begins = begins_none s.commands.items l commands };
+    learnt = subst (λ (k : List Command). AreLearnt names (length k)) (sym commands) (λ slot below. absurd (omega (arith, below)));
     choices = subst (All (IsChoice requests names (length s.commands.items))) (sym untried)
         (All-nil (IsChoice requests names (length s.commands.items)));
     ascending = subst AreAscending (sym untried) tt;
     latest = subst (IsLatest requests names questions told) (sym latest) tt;
-    unlearnt = subst (IsUnlearnt names told) (sym unlearnt) tt;
+    unlearnt = subst (IsUnlearnt requests names questions told) (sym unlearnt) tt;
   };
   entered = λ none k other. is_begun (begins_none s.commands.items k commands);
 }
@@ -631,3 +666,9 @@ none_last (x ∷ xs) e =
     let f : slice_get (x ∷ xs) (length (x ∷ xs) - 1) ≡ Some (get_or (x ∷ xs) (length (x ∷ xs) - 1) x) =
     slice_get-get_or (x ∷ xs) (length (x ∷ xs) - 1) x (omega arith) in
     absurd (let g : None ≡ Some (get_or (x ∷ xs) (length (x ∷ xs) - 1) x) = sym e ∙ f in cc)
+
+-- ---- the last one
+pub last_there : {X : Type 0} (xs : List X) (x : X) → slice_get xs (length xs - 1) ≡ Some x → xs ≡ take (length xs - 1) xs ++ x ∷ []
+last_there xs x e =
+    let within = slice_get_within xs (length xs - 1) x e in
+    sym (take_all (length xs - 1 + 1) xs (omega (arith, within))) ∙ one_more xs (length xs - 1) x e

@@ -1,11 +1,11 @@
 -- What the first commands of a list reply and answer, and what that says of a line.
-use Rattle.std.specs.Prelude.{◌≡◌, ◌↔◌, ℕ, ◌<◌, ◌≤◌, List, length, take, slice_get, Option, Some, None, All, Any, IsTrue}
+use Rattle.std.specs.Prelude.{◌≡◌, ◌↔◌, ℕ, ◌<◌, ◌≤◌, List, length, take, slice_get, Option, Some, None, All, IsTrue}
 use Rattle.std.specs.BTreeSet.{BTreeSet, contains}
 use Rattle.sessions.specs.declared.command.Command.{Command}
 use Rattle.sessions.specs.Standing.{StandsFor}
 use Rattle.verdicts.specs.Explaining.{HasAnswer, HasTold, HasReply}
 use Rattle.verdicts.specs.RequestIndex.{reply_cmp}
-use Rattle.verdicts.specs.Verdicts.{BeginsWith, RestsOn}
+use Rattle.verdicts.specs.Verdicts.{AreOpen, BeginsWith, RestsOn}
 use Rattle.verdicts.specs.declared.examination.Contradiction.{Contradiction}
 use Rattle.verdicts.specs.declared.examination.Finding.{Finding}
 use Rattle.verdicts.specs.declared.examination.Finding.TheVariants.{Explained, Contradicted, Undecided}
@@ -59,5 +59,4 @@ abbrev pub IsScan : List Question → ℕ → List Command → List ToldLine →
 IsScan questions size commands told latest scan.Explained =
     (l : List Command) → BeginsWith size commands l → All (λ (line : ToldLine). HasTold questions l line.told) told
 IsScan questions size commands told latest (scan.Contradicted c) = IsContradiction questions size commands told latest c
-IsScan questions size commands told latest scan.Undecided = (length commands < size)
-    × Any (λ (line : ToldLine). RestsOn (length commands) line.told) told
+IsScan questions size commands told latest scan.Undecided = AreOpen questions size told commands

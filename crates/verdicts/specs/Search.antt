@@ -1,12 +1,12 @@
 -- Which lists of commands a search among choices has left behind, and what comes of it.
-use Rattle.std.specs.Prelude.{◌≡◌, ◌≢◌, ℕ, ◌+◌, ◌<◌, ◌≤◌, List, [], ◌∷◌, length, map, take, slice_get, All, AllPairs, Any, Contains, Option, Some, None, Bool, true, false}
+use Rattle.std.specs.Prelude.{◌≡◌, ◌≢◌, ℕ, ◌+◌, ◌-◌, ◌<◌, ◌≤◌, ◌==◌, ◌&&◌, count_by, List, [], ◌∷◌, length, map, take, slice_get, All, AllPairs, Any, Contains, Option, Some, None, Bool, true, false}
 use Rattle.std.specs.Option.{option_map}
 use Rattle.sessions.specs.declared.submission.Submission.{Submission}
 use Rattle.sessions.specs.declared.command.Command.{Command}
 use Rattle.sessions.specs.declared.command.Command.TheVariants as command
 use Rattle.verdicts.specs.Explaining.{IsAmong, HasTold, name_of}
 use Rattle.verdicts.specs.RequestIndex.{IsOf, IsAmbiguous}
-use Rattle.verdicts.specs.Verdicts.{AreNotEnough, RestsOn}
+use Rattle.verdicts.specs.Verdicts.{AreNotEnough, AreOpen, IsInReach}
 use Rattle.verdicts.specs.declared.examination.Contradiction.{Contradiction}
 use Rattle.verdicts.specs.declared.lines.Name.{Name}
 use Rattle.verdicts.specs.declared.lines.Name.TheVariants.{Request}
@@ -68,6 +68,28 @@ IsUnlisted requests places r = All (λ (place : ℕ). slice_get requests place �
 abbrev pub AreUnlike : List Submission → List ℕ → Type 0
 AreUnlike requests places = AllPairs (λ (a b : ℕ). slice_get requests a ≢ slice_get requests b) places
 
+-- ---- the order of choices
+abbrev pub is_known_by : ℕ → ℕ → Submission → Bool
+is_known_by client number r = (r.client == client) && (r.number == number)
+
+-- the command is a request that is known so
+abbrev pub is_command_of : ℕ → ℕ → Command → Bool
+is_command_of client number command.NoOp = false
+is_command_of client number (command.Request r) = is_known_by client number r
+
+-- at the place stands a request of the client and number, and before it so many others of them
+pub record StandsBehind (requests : List Submission) (client number before place : ℕ) : Type 0 where
+  pub operation : IsOperation requests client number place
+  pub others : count_by (is_known_by client number) (take place requests) ≡ before
+
+-- where there are more requests of the client and number than the commands have, the last place is that of the first one more
+abbrev pub IsLikeliestLast : List Submission → List Command → ℕ → ℕ → List ℕ → Type 0
+IsLikeliestLast requests commands client number places =
+    count_by (is_command_of client number) commands < count_by (is_known_by client number) requests
+    → (place : ℕ) × StandsBehind requests client number (count_by (is_command_of client number) commands) place
+    × (slice_get places (length places - 1) ≡ Some place)
+
+-- ---- choices at slots
 -- the slot has the name of requests with several operations, and this is one of them; the commands reach the slot
 pub record IsChoice (requests : List Submission) (names : List (Option Name)) (reached : ℕ) (b : Branch) : Type 0 where
   pub request : Submission
@@ -123,10 +145,23 @@ abbrev pub IsRefuted : List Question → List ToldLine → Option Contradiction 
 IsRefuted questions told None l = ⊥
 IsRefuted questions told (Some c) l = HasAllTold questions (take (c.at + 1) told) l → ⊥
 
--- no line tells of the slot, and one rests on it
-abbrev pub IsUnlearnt : List (Option Name) → List ToldLine → Option ℕ → Type 0
-IsUnlearnt names told None = Unit {0}
-IsUnlearnt names told (Some slot) = (slice_get names slot ≡ Some None) × Any (λ (line : ToldLine). RestsOn slot line.told) told
+-- a line tells of each slot below this one
+abbrev pub AreLearnt : List (Option Name) → ℕ → Type 0
+AreLearnt names size = (slot : ℕ) → slot < size → slice_get names slot ≢ Some None
+
+-- of the slot no line tells, and of each below it one does; and commands that end there are open
+pub record IsNeededSlot (requests : List Submission) (names : List (Option Name)) (questions : List Question) (told : List ToldLine)
+    (slot : ℕ) : Type 0 where
+  pub unlearnt : slice_get names slot ≡ Some None
+  pub learnt : AreLearnt names slot
+  pub commands : List Command
+  pub ends_there : length commands ≡ slot
+  pub begun : AreBegun requests names commands
+  pub open_there : AreOpen questions (length names) told commands
+
+abbrev pub IsUnlearnt : List Submission → List (Option Name) → List Question → List ToldLine → Option ℕ → Type 0
+IsUnlearnt requests names questions told None = Unit {0}
+IsUnlearnt requests names questions told (Some slot) = IsNeededSlot requests names questions told slot
 
 -- the list is refuted, or is one of a choice that was not tried yet
 pub data IsLeft (requests : List Submission) (questions : List Question) (told : List ToldLine) (s : Search) (l : List Command)
@@ -147,10 +182,11 @@ AreAll requests names unlearnt P = unlearnt ≡ None → (l : List Command) → 
 pub record IsSearch (requests : List Submission) (names : List (Option Name)) (questions : List Question) (told : List ToldLine)
     (s : Search) : Type 0 where
   pub begun : AreBegun requests names s.commands.items
+  pub learnt : AreLearnt names (length s.commands.items)
   pub choices : All (IsChoice requests names (length s.commands.items)) s.untried.items
   pub ascending : AreAscending s.untried.items
   pub latest : IsLatest requests names questions told s.latest
-  pub unlearnt : IsUnlearnt names told s.unlearnt
+  pub unlearnt : IsUnlearnt requests names questions told s.unlearnt
 
 -- a search that is to look at its commands
 pub record IsEntering (requests : List Submission) (names : List (Option Name)) (questions : List Question) (told : List ToldLine)
@@ -165,15 +201,11 @@ pub record IsLeaving (requests : List Submission) (names : List (Option Name)) (
   pub left : AreAll requests names s.unlearnt (IsLeft requests questions told s)
 
 -- ---- what was tried
--- a line tells of the slot of each of the commands
-abbrev pub AreLearnt : List (Option Name) → List Command → Type 0
-AreLearnt names commands = (slot : ℕ) → slot < length commands → slice_get names slot ≢ Some None
-
 -- a choice that was tried: commands as far as the names leave no other, which don't explain the lines
 pub record IsTried (requests : List Submission) (names : List (Option Name)) (questions : List Question) (told : List ToldLine)
     (commands : List Command) : Type 0 where
   pub begun : AreBegun requests names commands
-  pub learnt : AreLearnt names commands
+  pub learnt : AreLearnt names (length commands)
   pub next : Option (ℕ × ℕ)
   pub stops : IsStop requests names (length commands) next
   pub fails : AreNotEnough questions (length names) told commands
@@ -182,22 +214,24 @@ pub record IsTried (requests : List Submission) (names : List (Option Name)) (qu
 abbrev pub AreApart : List Submission → List Command → Branch → Branch → Type 0
 AreApart requests commands b c = (l : List Command) → Follows requests commands l b → ¬ (Follows requests commands l c)
 
--- so many choices were tried, no two alike, and none is of a choice that is left
+-- so many choices were tried, no two alike, and none is of a choice that is left, which is in their reach
 pub record HasTried (requests : List Submission) (names : List (Option Name)) (questions : List Question) (told : List ToldLine)
     (count : ℕ) (commands : List Command) (untried : List Branch) : Type 0 where
   pub choices : List (List Command)
   pub counted : length choices ≡ count
   pub unlike : AllPairs (λ (a b : List Command). a ≢ b) choices
   pub tried : All (IsTried requests names questions told) choices
-  pub learnt : AreLearnt names commands
   pub apart : AllPairs (AreApart requests commands) untried
   pub left : All (λ (b : Branch). All (λ (l : List Command). ¬ (Follows requests commands l b)) choices) untried
+  pub in_reach : All (λ (b : Branch). (l : List Command) → Follows requests commands l b
+      → IsInReach questions (length names) told choices l) untried
 
--- and the commands are a further choice: none of those begins with them, nor does any list of a choice that is left
+-- and the commands are a further choice in their reach: none of those begins with them, nor does any list of a choice that is left
 pub record IsNext (requests : List Submission) (names : List (Option Name)) (questions : List Question) (told : List ToldLine)
     (count : ℕ) (commands : List Command) (untried : List Branch) : Type 0 where
   pub has_tried : HasTried requests names questions told count commands untried
   pub fresh : All (λ (l : List Command). take (length commands) l ≢ commands) has_tried.choices
+  pub in_reach : IsInReach questions (length names) told has_tried.choices commands
   pub aside : All (λ (b : Branch). (l : List Command) → take (length commands) l ≡ commands → ¬ (Follows requests commands l b)) untried
 
 -- with a next choice, or with none
@@ -227,17 +261,28 @@ pub record IsUndecided (requests : List Submission) (names : List (Option Name))
   pub named : slice_get names slot ≡ Some (Some (Request client number))
   pub ambiguous : IsAmbiguous requests client number
 
--- more than 65,536 choices, no two alike, were tried
+-- more than 65,536 choices were tried
+pub record HasTriedMany (requests : List Submission) (names : List (Option Name)) (questions : List Question) (told : List ToldLine)
+    (commands : List Command) (untried : List Branch) : Type 0 where
+  pub count : ℕ
+  pub many : 65536 < count
+  pub has_tried : HasTried requests names questions told count commands untried
+
+-- more than 65,536 choices were tried, and these commands, which have a request of the client and number, are a further one
 pub record AreManyTried (requests : List Submission) (names : List (Option Name)) (questions : List Question) (told : List ToldLine)
-    : Type 0 where
-  pub choices : List (List Command)
-  pub count : 65536 < length choices
-  pub unlike : AllPairs (λ (a b : List Command). a ≢ b) choices
-  pub tried : All (IsTried requests names questions told) choices
+    (client number : ℕ) : Type 0 where
+  pub count : ℕ
+  pub many : 65536 < count
+  pub commands : List Command
+  pub untried : List Branch
+  pub begun : AreBegun requests names commands
+  pub learnt : AreLearnt names (length commands)
+  pub next : IsNext requests names questions told count commands untried
+  pub has_request : Any (λ (c : Command). name_of c ≡ Request client number) commands
 
 abbrev pub IsOutcome : List Submission → List (Option Name) → List Question → List ToldLine → Verdict → Type 0
 IsOutcome requests names questions told Explained = IsSolved requests names questions told
 IsOutcome requests names questions told (Contradicted place why) = IsLast requests names questions told place
-IsOutcome requests names questions told (UnlearntSlot slot) = IsUnlearnt names told (Some slot)
+IsOutcome requests names questions told (UnlearntSlot slot) = IsNeededSlot requests names questions told slot
 IsOutcome requests names questions told (TwoOperations client number) =
-    IsUndecided requests names client number × AreManyTried requests names questions told
+    IsUndecided requests names client number × AreManyTried requests names questions told client number

@@ -1,14 +1,14 @@
 //! Choices among the operations of requests that were submitted with several.
 
-ghost use Rattle.std.specs.Prelude.{◌≡◌, ◌≢◌, ◌≤◌, ◌<◌, ◌+◌, ◌++◌, ◌↔◌, [], ℕ, List, Option, All, Any, Contains, IfOk, OnOk, IsTrue, length, slice_get, Some, true, false, IfSome};
+ghost use Rattle.std.specs.Prelude.{◌≡◌, ◌≢◌, ◌≤◌, ◌<◌, ◌+◌, ◌++◌, ◌↔◌, [], ℕ, List, Option, All, Any, Contains, IfOk, OnOk, IsTrue, length, slice_get, take, count_by, ◌∷◌, MatchOption, Some, true, false};
 ghost use Rattle.store.specs.Operations.{OpIsValid};
 ghost use Rattle.sessions.specs.declared.submission.Submission.{Submission};
 ghost use Rattle.verdicts.specs.Execution.{IsContradiction};
 ghost use Rattle.verdicts.specs.Explaining.{position_of};
 ghost use Rattle.verdicts.specs.Placement.{SlotIsSubmitted};
 ghost use Rattle.verdicts.specs.RequestIndex.{IsIndexed, IsOf};
-ghost use Rattle.verdicts.specs.Search.{AreLearnt, AreManyTried, AreOperations, AreUnlike, HasTried, IsListed, IsNext, IsOperation, IsTried, IsUnlisted, branches_at, IsExtended, IsStop, IsBehind, IsWithin, IsEntering, IsLeaving, IsSolved, IsOutcome, AfterStep};
-ghost use Rattle.verdicts.specs.Verdicts.{RestsOn};
+ghost use Rattle.verdicts.specs.Search.{AreLearnt, AreOperations, AreUnlike, HasTried, HasTriedMany, IsLikeliestLast, IsListed, IsNext, IsOperation, IsTried, IsUnlisted, StandsBehind, branches_at, is_command_of, is_known_by, IsExtended, IsStop, IsBehind, IsWithin, IsEntering, IsLeaving, IsSolved, IsOutcome, AfterStep};
+ghost use Rattle.verdicts.specs.Verdicts.{AreOpen};
 ghost use Rattle.verdicts.specs.declared.lines.Name.{Name as AName};
 ghost use Rattle.verdicts.specs.declared.lines.Question.{Question as AQuestion};
 ghost use Rattle.verdicts.specs.declared.lines.ToldLine.{ToldLine as ALine};
@@ -161,12 +161,12 @@ impl Search {
         ensures leaving { OnOk result ((names : List (Option AName)) (questions : List AQuestion) (told : List ALine)
             → IsEntering requests.now names questions told self.old
             → IsStop requests.now names (length self.old.commands.items) choice
-            → length self.old.commands.items < length names
-            → Any (λ (line : ALine). RestsOn (length self.old.commands.items) line.told) told
+            → AreOpen questions (length names) told self.old.commands.items
             → IsLeaving requests.now names questions told self.new) }
         ensures tried { OnOk result ((names : List (Option AName)) (questions : List AQuestion) (told : List ALine) (count : ℕ)
             → IsNext requests.now names questions told count self.old.commands.items self.old.untried.items
             → IsTried requests.now names questions told self.old.commands.items
+            → AreOpen questions (length names) told self.old.commands.items
             → HasTried requests.now names questions told (count + 1) self.new.commands.items self.new.untried.items) }
     {
         let slot = self.commands.len();
@@ -211,7 +211,8 @@ impl Search {
         requires within { IsWithin told.now self.now.latest }
         ensures { (names : List (Option AName)) (questions : List AQuestion)
             → IsLeaving requests.now names questions told.now self.now
-            → (self.now.untried.items ≢ [] → AreManyTried requests.now names questions told.now)
+            → (self.now.untried.items ≢ []
+            → HasTriedMany requests.now names questions told.now self.now.commands.items self.now.untried.items)
             → IsOutcome requests.now names questions told.now result }
     {
         let next = self.untried.last().copied();
@@ -254,7 +255,7 @@ fn extend(
     requires submitted { All (SlotIsSubmitted requests.now) names.now }
     requires within { length commands.old.items ≤ length names.now }
     ensures extended { OnOk result (IsExtended requests.now names.now commands.old.items commands.new.items) }
-    ensures learnt { OnOk result (AreLearnt names.now commands.old.items → AreLearnt names.now commands.new.items) }
+    ensures learnt { OnOk result (AreLearnt names.now (length commands.old.items) → AreLearnt names.now (length commands.new.items)) }
     ensures stops { IfOk result (IsStop requests.now names.now (length commands.new.items)) }
 {
     while commands.len() < names.len() {
@@ -281,6 +282,7 @@ fn choices_at(
 ) -> Result<Vec<usize>, AllocError>
     ensures operations { IfOk result (λ places. AreOperations requests.now client number places.items) }
     ensures unlike { IfOk result (λ places. AreUnlike requests.now places.items) }
+    ensures likeliest { IfOk result (λ places. IsLikeliestLast requests.now commands.now client number places.items) }
 {
     let before = count_of(commands, client, number);
     let mut places = likeliest(alloc, requests, client, number, before)?;
@@ -300,6 +302,8 @@ fn likeliest(
 ) -> Result<Vec<usize>, AllocError>
     ensures each { IfOk result (λ places. All (IsOperation requests.now client number) places.items) }
     ensures unlike { IfOk result (λ places. AreUnlike requests.now places.items) }
+    ensures likeliest { IfOk result (λ places. before < count_by (is_known_by client number) requests.now
+        → (place : ℕ) × StandsBehind requests.now client number before place × (places.items ≡ place ∷ [])) }
 {
     let mut places = Vec::new(alloc);
     match place_of(requests, client, number, before) {
@@ -313,7 +317,8 @@ fn likeliest(
 
 /// The place of the client's request of the number that is behind so many others.
 fn place_of(requests: &[Request], client: u8, number: u64, before: usize) -> Option<usize>
-    ensures { IfSome result (IsOperation requests.now client number) }
+    ensures { MatchOption result (count_by (is_known_by client number) requests.now ≤ before)
+        (StandsBehind requests.now client number before) }
 {
     let mut left = before;
     for place in 0..requests.len() {
@@ -328,21 +333,32 @@ fn place_of(requests: &[Request], client: u8, number: u64, before: usize) -> Opt
 }
 
 /// How many of the commands are the client's requests of the number.
-fn count_of(commands: &[Command], client: u8, number: u64) -> usize {
+fn count_of(commands: &[Command], client: u8, number: u64) -> usize
+    ensures { result ≡ count_by (is_command_of client number) commands.now }
+{
     let mut count: usize = 0;
     for command in commands {
-        if let Command::Request(request) = command {
-            if is_of(request, client, number) {
-                count = count.saturating_add(1);
-            }
+        if is_command_of(command, client, number) {
+            count += 1;
         }
     }
     count
 }
 
+/// Whether the command is the client's request of the number.
+fn is_command_of(command: &Command, client: u8, number: u64) -> bool
+    ensures { result ≡ is_command_of client number command.now }
+{
+    match command {
+        Command::NoOp => false,
+        Command::Request(request) => is_of(request, client, number),
+    }
+}
+
 /// Whether it is the client's request of the number.
 fn is_of(request: &Request, client: u8, number: u64) -> bool
-    ensures { IsTrue result ↔ IsOf client number request.now }
+    ensures is_of { IsTrue result ↔ IsOf client number request.now }
+    ensures known { result ≡ is_known_by client number request.now }
 {
     request.client() == client && request.number().value() == number
 }
@@ -358,6 +374,7 @@ fn add_operations(
     requires unlike { AreUnlike requests.now places.old.items }
     ensures operations { OnOk result (AreOperations requests.now client number places.new.items) }
     ensures unlike { OnOk result (AreUnlike requests.now places.new.items) }
+    ensures keeps { OnOk result (take (length places.old.items) places.new.items ≡ places.old.items) }
 {
     for (place, request) in requests.iter().enumerate() {
         if is_new(requests, places, request, client, number) {

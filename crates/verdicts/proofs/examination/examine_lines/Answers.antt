@@ -1,4 +1,5 @@
-use Rattle.std.proofs.Common.{◌≡◌, length, All, refl, sym, subst, ◌∙◌, false, true}
+use Rattle.std.proofs.Common.{◌≡◌, inl, inr, length, All, refl, sym, subst, ◌∙◌, false, true}
+use Rattle.std.proofs.lemmas.Bool.{cases_Bool}
 use Rattle.std.proofs.lemmas.List.{take_all}
 use Rattle.std.proofs.lemmas.List.Elements.{All-more, All-nil}
 use Rattle.std.proofs.lemmas.Option.{slice_get_read}
@@ -42,7 +43,19 @@ loop-at-preserved c =
           record {
             at = c.in_ok-examine.ensures.at;
             explains = λ e. absurd (let f : true ≡ false = sym w.is_undecided-is ∙ e in cc);
-            rests = λ e. (found.0, (c.loop-at.at, c.index-told-at.result, c.loop-at-test.true, sym c.index-told-at.is, found.1));
+            rests = λ e. elim (cases_Bool c.loop-at.is_undecided) [
+              | inl before ↦ was.rests before
+              | inr now ↦
+                  record {
+                    below = found.0;
+                    before = c.loop-at.at;
+                    line = c.index-told-at.result;
+                    there = slice_get_read c.args.told.now (length c.args.told.now) c.loop-at.at c.index-told-at.result refl
+                        c.loop-at-test.true c.index-told-at.is;
+                    rests = found.1;
+                    explained = was.explains now;
+                  }
+            ];
           }
     ]
 

@@ -1,9 +1,9 @@
-use Rattle.std.proofs.Common.{Global, Vec, ◌≡◌, ◌≢◌, ◌++◌, ◌∷◌, [], ℕ, List, Contains, Some, slice_get, length, refl, sym, ap, subst, ◌∙◌}
-use Rattle.std.proofs.lemmas.List.{take_all}
+use Rattle.std.proofs.Common.{Global, Vec, ◌≡◌, ◌≢◌, ◌++◌, ◌∷◌, [], ℕ, List, Contains, Some, slice_get, length, refl, sym, ap, subst, ◌∙◌, arith}
+use Rattle.std.proofs.lemmas.List.{length_push, take_all}
 use Rattle.std.proofs.lemmas.List.Quantifiers.{all_pairs_push}
 use Rattle.std.proofs.lemmas.Option.{slice_get_read}
 use Rattle.sessions.specs.declared.submission.Submission.{Submission}
-use Rattle.verdicts.proofs.SearchLemmas.{each_added, whole_added, whole_kept}
+use Rattle.verdicts.proofs.SearchLemmas.{each_added, take_front, whole_added, whole_kept}
 use Rattle.verdicts.proofs.search.add_operations.Goals as goal
 use Rattle.verdicts.proofs.search.add_operations.Goals.{then-is_new+in_ok-push, else-is_new}
 
@@ -25,6 +25,8 @@ loop-place-preserved c =
                 (c.is_new.ensures.wanted w.if-is_new.true);
             unlike = all_pairs_push (λ (a b : ℕ). slice_get requests a ≢ slice_get requests b) c.loop-place.places.items place was.unlike
                 (λ k d within e. unlisted k d within (e ∙ here));
+            grows = let more = length_push c.loop-place.places.items place in let grows = was.grows in omega (arith, more, grows);
+            keeps = take_front (length c.args.places.now.items) c.loop-place.places.items (place ∷ []) was.grows ∙ was.keeps;
             whole = whole_added requests c.args.client c.args.number c.loop-place.places.items place r here was.each was.whole;
           })
       | else-is_new w ↦
@@ -33,6 +35,8 @@ loop-place-preserved c =
           rw items (record {
             each = was.each;
             unlike = was.unlike;
+            grows = was.grows;
+            keeps = was.keeps;
             whole = whole_kept requests c.args.client c.args.number c.loop-place.places.items place r here was.each was.whole listed;
           })
     ]

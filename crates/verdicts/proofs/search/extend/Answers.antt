@@ -1,6 +1,7 @@
-use Rattle.std.proofs.Common.{◌≡◌, ◌<◌, None, Some, length, slice_get, sym, ap, subst, ◌∙◌, rules}
+use Rattle.std.proofs.Common.{◌≡◌, ◌<◌, List, None, Some, length, slice_get, sym, ap, subst, ◌∙◌, rules}
 use Rattle.std.proofs.lemmas.List.Elements.{All-contains}
 use Rattle.std.proofs.lemmas.Option.{slice_get-get_or}
+use Rattle.sessions.specs.declared.command.Command.{Command}
 use Rattle.verdicts.specs.Placement.{SlotIsSubmitted}
 use Rattle.verdicts.specs.Search.{AreLearnt, IsExtended}
 use Rattle.verdicts.proofs.IndexLemmas.{contains_from_get}
@@ -32,7 +33,7 @@ loop-commands-preserved c =
           (extended_by_one c.args.requests.now c.args.names.now c.args.commands.now.items c.loop-commands.commands.items c.in-Some.name
           c.in-Only.command c.loop-commands.invariant.extended there only);
       learnt = λ h.
-          subst (AreLearnt c.args.names.now) (sym more)
+          subst (λ (l : List Command). AreLearnt c.args.names.now (length l)) (sym more)
           (learnt_by_one c.args.names.now c.loop-commands.commands.items c.in-Some.name c.in-Only.command
           (c.loop-commands.invariant.learnt h) there);
     }

@@ -68,9 +68,4 @@ returns c =
     let was = c.loop-tried.invariant.has_tried in
     let last = c.loop-tried-test.false in
     c.outcome-2.ensures c.args.names.now c.args.questions.now c.loop-tried.invariant.leaving
-    (λ some. record {
-      choices = was.choices;
-      count = let counted = was.counted in omega (arith, counted, last);
-      unlike = was.unlike;
-      tried = was.tried;
-    })
+    (λ some. record { count = c.loop-tried._tried + 1; many = omega (arith, last); has_tried = was })

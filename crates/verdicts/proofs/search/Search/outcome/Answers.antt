@@ -5,6 +5,7 @@ use Rattle.verdicts.specs.Search.{IsBehind}
 use Rattle.verdicts.specs.declared.search.Branch.{Branch}
 use Rattle.verdicts.proofs.IndexLemmas.{contains_from_get}
 use Rattle.verdicts.proofs.SearchLemmas.{choice_left, last_contradiction, no_element, none_last, not_none}
+use Rattle.verdicts.proofs.TryingLemmas.{last_left}
 use Rattle.verdicts.proofs.search.Search.outcome.Goals as goal
 
 pub bounds-requests-branch : goal.bounds-requests-branch
@@ -20,12 +21,16 @@ returns-in-Some c = λ names questions leaving many.
     contains_from_get c.args.self.now.untried.items _ c.in-Some.branch there in
     let within : c.in-Some.branch.place < length c.args.requests.now =
     All-contains (IsBehind c.args.requests.now) c.args.self.now.untried.items c.in-Some.branch c.requires.placed contained in
+    let request_there = slice_get_read c.args.requests.now (length c.args.requests.now) c.in-Some.branch.place
+    c.index-requests-branch.result refl within c.index-requests-branch.is in
+    let more =
+    many (λ empty. no_element c.in-Some.branch (subst (λ (bs : List Branch). Contains bs c.in-Some.branch) empty contained)) in
+    let tried = last_left c.args.requests.now names questions c.args.told.now c.args.self.now leaving c.in-Some.branch
+    c.index-requests-branch.result there request_there more.count more.many more.has_tried in
     rw c.undecided.ensures (
       choice_left c.args.requests.now names questions c.args.told.now c.args.self.now leaving c.in-Some.branch contained
-          c.index-requests-branch.result
-          (slice_get_read c.args.requests.now (length c.args.requests.now) c.in-Some.branch.place c.index-requests-branch.result refl within
-          c.index-requests-branch.is),
-      many (λ empty. no_element c.in-Some.branch (subst (λ (bs : List Branch). Contains bs c.in-Some.branch) empty contained)),
+          c.index-requests-branch.result request_there,
+      tried,
     )
 
 pub returns-in-Some-unlearnt : goal.returns-in-Some-unlearnt
