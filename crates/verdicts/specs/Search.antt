@@ -69,6 +69,7 @@ abbrev pub AreUnlike : List Submission → List ℕ → Type 0
 AreUnlike requests places = AllPairs (λ (a b : ℕ). slice_get requests a ≢ slice_get requests b) places
 
 -- ---- the order of choices
+-- the request is known by this client and number
 abbrev pub is_known_by : ℕ → ℕ → Submission → Bool
 is_known_by client number r = (r.client == client) && (r.number == number)
 

@@ -24,7 +24,8 @@ pub enum Verdict {
     Explained,
     /// No list explains the lines up to this one, and one explains those before.
     Contradicted { place: Place, why: Why },
-    /// A line needs this slot, and no line tells what was learnt there. Nothing is claimed.
+    /// A line needs this slot, the first of which no line tells what was learnt there. Some list explains the lines `learn`, and no more
+    /// is claimed.
     UnlearntSlot(usize),
     /// This request was learnt, and is submitted with two operations. More than 65,536 choices among such operations were tried, and
     /// some are left. No more is claimed.
