@@ -154,11 +154,11 @@ module _ {S : Type 0} (storages : Ghosts S) (now : ℕ) where
   each_move _ _ _ _ _ (answers p position question waiting said life silent at which h) =
       subst (λ (t : List Talk). KeepsEach t p.waiting waiting) (sym h.says)
       (each_answer position p.waiting waiting question (text_line h.told.0 h.told.1) which)
-  each_move _ _ _ _ _ (holds_back p position question rest first at before) =
+  each_move _ _ _ _ _ (holds_back p position question rest silent first at before) =
       let old = record p.waiting { due = rest } in
       let new = record p.waiting { questions = p.waiting.questions ++ question ∷ []; due = rest } in
       subst (λ (ds : List Due). KeepsEach [] (record p.waiting { due = ds }) new) (sym first) (keeps_held old new question refl)
-  each_move _ _ _ _ _ (tells p connection answered rest first) =
+  each_move _ _ _ _ _ (tells p connection answered rest silent first) =
       keeps_line_told p.waiting (record p.waiting { due = rest }) connection answered answered.items first refl
   each_move _ _ _ _ _ (turns_away p claim rest refusal silent full first spelled) =
       keeps_turned_away p.waiting (owing claim.connection refusal (record p.waiting { claims = rest })) claim rest refusal first refl
@@ -254,8 +254,8 @@ module _ {S : Type 0} (storages : Ghosts S) (now : ℕ) where
   move_stays _ _ _ _ _ (lets_out p sent said claims frames replies) = stays_itself storages p.life.node
   move_stays _ _ _ _ _ (answers p position question waiting said life silent at which h) =
       stays_same storages p.life.node life.node (ap (λ (l : LifeState S). l.node) h.leaves ∙ h.asks.happens.2)
-  move_stays _ _ _ _ _ (holds_back p position question rest first at before) = stays_itself storages p.life.node
-  move_stays _ _ _ _ _ (tells p connection answered rest first) = stays_itself storages p.life.node
+  move_stays _ _ _ _ _ (holds_back p position question rest silent first at before) = stays_itself storages p.life.node
+  move_stays _ _ _ _ _ (tells p connection answered rest silent first) = stays_itself storages p.life.node
   move_stays _ _ _ _ _ (turns_away p claim rest refusal silent full first spelled) = stays_itself storages p.life.node
   move_stays _ _ _ _ _ (clears p silent full) = stays_itself storages p.life.node
   move_stays _ _ _ _ _ (hands_on p place requests sent silent goes_on first marked packets) = stays_itself storages p.life.node
@@ -304,8 +304,8 @@ module _ {S : Type 0} (storages : Ghosts S) (now : ℕ) where
   move_knows _ _ _ _ _ (lets_out p sent said claims frames replies) =
       (refl, refl, learns_all_sent p.nodes now p.life.held.frames sent p.timing frames)
   move_knows _ _ _ _ _ (answers p position question waiting said life silent at which h) = (refl, refl, refl)
-  move_knows _ _ _ _ _ (holds_back p position question rest first at before) = (refl, refl, refl)
-  move_knows _ _ _ _ _ (tells p connection answered rest first) = (refl, refl, refl)
+  move_knows _ _ _ _ _ (holds_back p position question rest silent first at before) = (refl, refl, refl)
+  move_knows _ _ _ _ _ (tells p connection answered rest silent first) = (refl, refl, refl)
   move_knows _ _ _ _ _ (turns_away p claim rest refusal silent full first spelled) = (refl, refl, refl)
   move_knows _ _ _ _ _ (clears p silent full) = (refl, refl, refl)
   move_knows _ _ _ _ _ (hands_on p place requests sent silent goes_on first marked packets) = (

@@ -240,11 +240,11 @@ module _ {S D : Type 0} (storages : Ghosts S) (tape : D → List Talk) (Talks : 
 
     -- it is held back
     passes_holding_back : (p q : ProcessState S) (at : ℕ) (question : Question) (waiting : WaitingState) (d e : D)
-        → IsPosition p.life.node at → p.waiting.due ≡ due.Answer question ∷ waiting.due
+        → p.life.held ≡ nothing → IsPosition p.life.node at → p.waiting.due ≡ due.Answer question ∷ waiting.due
         → waiting ≡ record p.waiting { due = waiting.due } → at < question.from → e ≡ d → q.life ≡ p.life
         → q ≡ record p { life = q.life; waiting = q.waiting }
         → q.waiting ≡ record waiting { questions = waiting.questions ++ question ∷ [] } → PassesMoves p d q e false
-    passes_holding_back p q at question waiting d e here next others before still life is waits =
+    passes_holding_back p q at question waiting d e silent here next others before still life is waits =
         let held : WaitingState = record p.waiting { questions = p.waiting.questions ++ question ∷ []; due = waiting.due } in
         let after : ProcessState S = record p { waiting = held } in
         let now_held : q.waiting ≡ held = waits ∙ ap (λ (w : WaitingState). record w { questions = w.questions ++ question ∷ [] }) others in
@@ -252,7 +252,7 @@ module _ {S D : Type 0} (storages : Ghosts S) (tape : D → List Talk) (Talks : 
         let same : q ≡ after = is ∙ both in
         let quiet : PassesMoves p d after d false =
         clients_told_quiet storages now tape Talks p after d
-        (moves_one storages now p after [] [] (holding_back p at question waiting.due next here before)) in
+        (moves_one storages now p after [] [] (holding_back p at question waiting.due silent next here before)) in
         subst (λ (x : D). PassesMoves p d q x false) (sym still) (passes_moves_to p after q d d false quiet same)
 
     -- either
@@ -270,7 +270,7 @@ module _ {S D : Type 0} (storages : Ghosts S) (tape : D → List Talk) (Talks : 
         elim (cases_lt at.0 question.from) [
           | inl before ↦ let back = holds_back at.0 at.1 before in
               subst (λ (b : Bool). PassesMoves p d q e b) (sym back.2.0)
-              (passes_holding_back p q at.0 question waiting d e at.1 next others before back.0 back.1 is back.2.1)
+              (passes_holding_back p q at.0 question waiting d e held at.1 next others before back.0 back.1 is back.2.1)
           | inr behind ↦ let told = answers at.0 at.1 behind in
               subst (λ (b : Bool). PassesMoves p d q e b) (sym told.0)
               (passes_due p q at.0 question waiting d e held at.1 (ripe.held_back at.0 at.1) next others behind told.1 is
@@ -279,16 +279,16 @@ module _ {S D : Type 0} (storages : Ghosts S) (tape : D → List Talk) (Talks : 
 
     -- a line that is due
     pub passes_line : (p : ProcessState S) (waiting : WaitingState) (what : Due) (connection : ℕ) (text : Vec ℕ) (shown : List ℕ)
-        (d e : D) → p.waiting.due ≡ what ∷ waiting.due → waiting ≡ record p.waiting { due = waiting.due }
+        (d e : D) → p.life.held ≡ nothing → p.waiting.due ≡ what ∷ waiting.due → waiting ≡ record p.waiting { due = waiting.due }
         → what ≡ due.Line connection text → shown ≡ text.items → HasPassed tape Talks d (Told connection shown ∷ []) e
         → PassesMoves p d (record p { waiting = waiting }) e true
-    passes_line p waiting what connection text shown d e next others is spelled passed =
+    passes_line p waiting what connection text shown d e silent next others is spelled passed =
         let after : ProcessState S = record p { waiting = record p.waiting { due = waiting.due } } in
         let line : p.waiting.due ≡ due.Line connection text ∷ waiting.due = next ∙ ap (λ (x : Due). x ∷ waiting.due) is in
         let moves : PassesMoves p d after e true = record {
           passed = Told connection text.items ∷ [];
           are = (
-            moves_one storages now p after [] (Told connection text.items ∷ []) (telling p connection text waiting.due line),
+            moves_one storages now p after [] (Told connection text.items ∷ []) (telling p connection text waiting.due silent line),
             refl,
           );
           passes = subst (λ (b : List ℕ). HasPassed tape Talks d (Told connection b ∷ []) e) spelled passed;

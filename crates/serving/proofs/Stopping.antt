@@ -1,18 +1,21 @@
 -- A turn that breaks off did so much of a turn, in its order.
-use Rattle.std.proofs.Common.{◌≡◌, ◌<◌, ◌≤◌, ℕ, ◌+◌, Bool, List, [], ◌∷◌, ◌++◌, All, length, take, get_or, Option, Some, inl, inr, refl, sym, ap, subst, ◌∙◌, arith, append-nil, append_assoc}
+use Rattle.std.proofs.Common.{◌≡◌, ◌⊎◌, ◌<◌, ◌≤◌, ℕ, ◌+◌, Bool, List, [], ◌∷◌, ◌++◌, All, length, take, get_or, Option, Some, None, IsSome, inl, inr, refl, sym, ap, subst, ◌∙◌, arith, append-nil, append_assoc}
 use Rattle.std.specs.List.{HoldsAt}
 use Rattle.std.proofs.lemmas.Option.{slice_get-get_or}
 use Rattle.std.proofs.lemmas.List.Elements.{All-cons, All-nil}
 use Rattle.stable.specs.declared.stable.Stable.{Ghosts}
 use Rattle.wire.specs.declared.frames.envelope.Envelope.{Envelope}
 use Rattle.node_model.specs.Nodes.{NodeState}
+use Rattle.node_model.specs.Replicas.{ReplicaState}
+use Rattle.node_model.specs.declared.fault.NodeFault.TheVariants as node_fault
 use Rattle.node_model.specs.declared.input.Input.TheVariants as input
 use Rattle.world_model.specs.declared.lists.Replied.{Replied}
 use Rattle.life.specs.Lives.{LifeState}
 use Rattle.life.specs.Telling.{nothing}
 use Rattle.serving.specs.Ending.{EndsAt, IsAsked, IsGiven, IsOfOthers}
-use Rattle.serving.specs.Moves.{AreRepliesTold, HandsOnSome, HasTaken, IsBrokenOff, IsGivenWhere, KeepsTime, LetsOutSome, Moves, StopsBehind, StopsGoingOn, StopsHandingOn, StopsKeepingRecords, StopsKeepingTime, StopsTaking, StopsTelling, Taking, TakesAll, Telling, TellsOrNot}
+use Rattle.serving.specs.Moves.{AreRepliesTold, HandsOnSome, HasTaken, IsBrokenOff, IsEnded, IsGivenWhere, KeepsTime, LetsOutSome, Moves, StopsBehind, StopsGoingOn, StopsHandingOn, StopsKeepingRecords, StopsKeepingTime, StopsTaking, StopsTelling, Taking, TakesAll, Telling, TellsOrNot}
 use Rattle.serving.specs.Moves.IsBrokenOff.{at_the_time, behind_the_time, while_taking, while_telling}
+use Rattle.serving.specs.Moves.IsEnded.{at_once, on_its_way}
 use Rattle.serving.specs.Moves.LetsOutSome.{some_frames, some_replies}
 use Rattle.serving.specs.Moves.Moves.{none}
 use Rattle.serving.specs.Moves.StopsKeepingTime.{at_campaign, at_tick}
@@ -48,10 +51,11 @@ module _ {N : Type 0} (carried : N → List Carried) (Carries : N → Type 0) wh
       → Passes carried Carries (λ sent. (k : ℕ) × AreFramesOf (take k frames) sent) n m
   so_many_frames frames count n m h = record { passed = h.passed; are = (count, h.are); passes = h.passes }
 
-  pub so_many_packets : (leader : Option ℕ) (own : ℕ) (packet : List ℕ) (upto : ℕ) (n m : N)
+  pub so_many_packets : (leader : Option ℕ) (own nodes : ℕ) (packet : List ℕ) (upto : ℕ) (n m : N) → upto ≤ nodes
       → Passes carried Carries (ArePacketsOf leader own packet upto) n m
-      → Passes carried Carries (λ sent. (k : ℕ) × ArePacketsOf leader own packet k sent) n m
-  so_many_packets leader own packet upto n m h = record { passed = h.passed; are = (upto, h.are); passes = h.passes }
+      → Passes carried Carries (λ sent. (k : ℕ) × (k ≤ nodes) × ArePacketsOf leader own packet k sent) n m
+  so_many_packets leader own nodes packet upto n m among h =
+      record { passed = h.passed; are = (upto, among, h.are); passes = h.passes }
 
 module _ {D : Type 0} (talk : D → List Talk) (Talks : D → Type 0) where
   pub so_many_replies : (claims left : List Claim) (replies : List Replied) (i : ℕ) (replied : Replied) (d e f : D) → i < length replies
@@ -92,13 +96,24 @@ module _ {N D : Type 0} (carried : N → List Carried) (Carries : N → Type 0) 
     talks = k.passes;
   }
 
+-- a node that isn't up is down
+pub down_unless_up : (up : Option ReplicaState) → (IsSome up → ⊥) → up ≡ None
+down_unless_up (Some m) never = absurd (never refl)
+down_unless_up None never = refl
+
+-- what is behind nothing is nothing
+nothing_behind : {A : Type 0} (xs ys : List A) → [] ≡ xs ++ ys → ys ≡ []
+nothing_behind [] ys is = sym is
+nothing_behind (x ∷ xs) ys is = absurd (cc)
+
 module _ {S : Type 0} (storages : Ghosts S) where
   module _ (now : ℕ) where
     -- ---- while it takes
     stops_at : (p q : ProcessState S) (came last : List Carried) (heard end : List Talk) (fault : TurnFault) (n : NodeState S)
         → Moves storages now Taking p came heard q → length last + length end ≤ 1 → All IsArrival last → All IsHeard end
-        → EndsAt storages IsOfOthers q.life.node fault n → StopsTaking storages now p (came ++ last) (heard ++ end) fault n
-    stops_at p q came last heard end fault n moves one came_so heard_so ends = record {
+        → (p.life.own ≡ [] → (last ≡ []) ⊎ (q.life.own ≡ [])) → EndsAt storages IsOfOthers q.life.node fault n
+        → StopsTaking storages now p (came ++ last) (heard ++ end) fault n
+    stops_at p q came last heard end fault n moves one came_so heard_so own ends = record {
       between = q;
       came_before = came;
       heard_before = heard;
@@ -110,6 +125,7 @@ module _ {S : Type 0} (storages : Ghosts S) where
       heard_so = heard_so;
       all_came = refl;
       all_heard = refl;
+      own = own;
       ends = ends;
     }
 
@@ -120,12 +136,12 @@ module _ {S : Type 0} (storages : Ghosts S) where
     stops_behind p q came heard fault n moves ends =
         subst (λ (xs : List Carried). StopsTaking storages now p xs heard fault n) (append-nil came)
         (subst (λ (xs : List Talk). StopsTaking storages now p (came ++ []) xs fault n) (append-nil heard)
-        (stops_at p q came [] heard [] fault n moves (omega arith) (All-nil IsArrival) (All-nil IsHeard) ends))
+        (stops_at p q came [] heard [] fault n moves (omega arith) (All-nil IsArrival) (All-nil IsHeard) (λ own. inl refl) ends))
 
     pub stops_then : (p q : ProcessState S) (came more : List Carried) (heard told : List Talk) (fault : TurnFault) (n : NodeState S)
-        → Moves storages now Taking p came heard q → StopsTaking storages now q more told fault n
-        → StopsTaking storages now p (came ++ more) (heard ++ told) fault n
-    stops_then p q came more heard told fault n moves h = record {
+        → Moves storages now Taking p came heard q → (p.life.own ≡ [] → (more ≡ []) ⊎ (q.life.own ≡ []))
+        → StopsTaking storages now q more told fault n → StopsTaking storages now p (came ++ more) (heard ++ told) fault n
+    stops_then p q came more heard told fault n moves own h = record {
       between = h.between;
       came_before = came ++ h.came_before;
       heard_before = heard ++ h.heard_before;
@@ -137,6 +153,11 @@ module _ {S : Type 0} (storages : Ghosts S) where
       heard_so = h.heard_so;
       all_came = ap (λ (xs : List Carried). came ++ xs) h.all_came ∙ sym (append_assoc came h.came_before h.last_came);
       all_heard = ap (λ (xs : List Talk). heard ++ xs) h.all_heard ∙ sym (append_assoc heard h.heard_before h.last_heard);
+      own = λ before.
+          elim (own before) [
+            | inl quiet ↦ inl (nothing_behind h.came_before h.last_came (sym quiet ∙ h.all_came))
+            | inr none_waits ↦ h.own none_waits
+          ];
       ends = h.ends;
     }
 
@@ -174,7 +195,7 @@ module _ {S : Type 0} (storages : Ghosts S) where
       nodes_stop_at p n m fault end passed x is so tape told ends = record {
         passed = x ∷ [];
         are = stops_at p p [] (x ∷ []) [] [] fault end (none p) (omega arith) (All-cons IsArrival x [] so (All-nil IsArrival))
-            (All-nil IsHeard) ends;
+            (All-nil IsHeard) (λ own. inr own) ends;
         passes = passes_as carried Carries n m passed (x ∷ []) tape told is;
       }
 
@@ -185,16 +206,16 @@ module _ {S : Type 0} (storages : Ghosts S) where
           → NodesStop p n m fault end
       nodes_stop_own p q n m fault end passed bytes is tape told moves stops = record {
         passed = Arrived bytes ∷ [];
-        are = stops_then p q (Arrived bytes ∷ []) [] [] [] fault end moves stops;
+        are = stops_then p q (Arrived bytes ∷ []) [] [] [] fault end moves (λ own. inl refl) stops;
         passes = passes_as carried Carries n m passed (Arrived bytes ∷ []) tape told is;
       }
 
       pub nodes_stop_then : (AreRead : List Carried → Type 0) (p q : ProcessState S) (n m o : N) (fault : TurnFault) (end : NodeState S)
-          → Passes carried Carries (λ came. Moves storages now Taking p came [] q × AreRead came) n m → NodesStop q m o fault end
-          → NodesStop p n o fault end
-      nodes_stop_then AreRead p q n m o fault end h k = record {
+          → Passes carried Carries (λ came. Moves storages now Taking p came [] q × AreRead came) n m
+          → (p.life.own ≡ [] → q.life.own ≡ []) → NodesStop q m o fault end → NodesStop p n o fault end
+      nodes_stop_then AreRead p q n m o fault end h own k = record {
         passed = h.passed ++ k.passed;
-        are = stops_then p q h.passed k.passed [] [] fault end h.are.0 k.are;
+        are = stops_then p q h.passed k.passed [] [] fault end h.are.0 (λ before. inr (own before)) k.are;
         passes = passes_then carried Carries n m o h.passed k.passed h.passes k.passes;
       }
 
@@ -209,7 +230,7 @@ module _ {S : Type 0} (storages : Ghosts S) where
       clients_stop_at p d e fault end passed x is so tape told ends = record {
         passed = x ∷ [];
         are = stops_at p p [] [] [] (x ∷ []) fault end (none p) (omega arith) (All-nil IsArrival)
-            (All-cons IsHeard x [] so (All-nil IsHeard)) ends;
+            (All-cons IsHeard x [] so (All-nil IsHeard)) (λ own. inl refl) ends;
         passes = passes_as talk Talks d e passed (x ∷ []) tape told is;
       }
 
@@ -218,7 +239,7 @@ module _ {S : Type 0} (storages : Ghosts S) where
           → ClientsStop p d f fault end
       clients_stop_then AreRead p q d e f fault end h k = record {
         passed = h.passed ++ k.passed;
-        are = stops_then p q [] [] h.passed k.passed fault end h.are.0 k.are;
+        are = stops_then p q [] [] h.passed k.passed fault end h.are.0 (λ own. inl refl) k.are;
         passes = passes_then talk Talks d e f h.passed k.passed h.passes k.passes;
       }
 
@@ -267,7 +288,8 @@ module _ {S : Type 0} (storages : Ghosts S) where
         (requests : List RequestState) (place : ℕ) (packet : List ℕ) (n m : N) → HandsOnFirst now place p.requests requests
         → HoldsAt (λ (r : RequestState). packet ≡ r.packet) requests place → p.life.held ≡ nothing
         → (IsFull p.life.node → p.requests ≡ [])
-        → Passes carried Carries (λ sent. (upto : ℕ) × ArePacketsOf (leader_in p.timing) p.own packet upto sent) n m
+        → Passes carried Carries (λ sent. (upto : ℕ) × (upto ≤ p.nodes)
+        × ArePacketsOf (leader_in p.timing) p.own packet upto sent) n m
         → Passes carried Carries (HandsOnSome storages now p) n m
     hands_on_some carried Carries p requests place packet n m h at silent none_at_full sends = record {
       passed = sends.passed;
@@ -275,11 +297,12 @@ module _ {S : Type 0} (storages : Ghosts S) where
         place = place;
         requests = requests;
         upto = sends.are.0;
+        among = sends.are.1;
         silent = silent;
         goes_on = λ full. never_empty h.before h.request h.after (sym h.was ∙ none_at_full full);
         first = h;
         some = subst (λ (b : List ℕ). ArePacketsOf (leader_in p.timing) p.own b sends.are.0 sends.passed)
-            (packet_of_first now place p.requests requests packet h at) sends.are.1;
+            (packet_of_first now place p.requests requests packet h at) sends.are.2;
       };
       passes = sends.passes;
     }
@@ -376,7 +399,7 @@ module _ {S : Type 0} (storages : Ghosts S) where
         sent = h.passed;
         said = k.passed;
         are = subst (λ (xs : List Carried). IsBrokenOff storages now p xs k.passed fault end) (append-nil h.passed)
-            (while_taking (h.passed ++ []) k.passed fault end (stops_then p q h.passed [] [] k.passed fault end h.are.0 k.are));
+            (while_taking (h.passed ++ []) k.passed fault end (stops_then p q h.passed [] [] k.passed fault end h.are.0 (λ own. inl refl) k.are));
         carries = h.passes;
         talks = k.passes;
       }
@@ -389,35 +412,39 @@ module _ {S : Type 0} (storages : Ghosts S) where
         abbrev pub HeardSo : Type 0
         HeardSo = Passes talk Talks (λ said. Moves storages now Taking q [] said r × HasRead read said more_heard) d e
 
-        has_taken : (h : CameSo) (k : HeardSo) → HasTaken storages now p h.passed k.passed r
-        has_taken h k = record {
+        abbrev pub OwnSo : Type 0
+        OwnSo = p.life.own ≡ [] → q.life.own ≡ []
+
+        has_taken : (h : CameSo) → OwnSo → (k : HeardSo) → HasTaken storages now p h.passed k.passed r
+        has_taken h own k = record {
           after_packets = q;
           packets = h.are.0;
           more_came = more_came;
           all_packets = h.are.1;
+          own_packets = own;
           lines = k.are.0;
           more_heard = more_heard;
           all_lines = k.are.1;
         }
 
         -- while the time is kept
-        pub both_stop_timing : (fault : TurnFault) (end : NodeState S) → CameSo → HeardSo → StopsKeepingTime storages now r fault end
-            → BothStop p n d m e fault end
-        both_stop_timing fault end h k stops = record {
+        pub both_stop_timing : (fault : TurnFault) (end : NodeState S) → CameSo → OwnSo → HeardSo
+            → StopsKeepingTime storages now r fault end → BothStop p n d m e fault end
+        both_stop_timing fault end h own k stops = record {
           sent = h.passed;
           said = k.passed;
-          are = at_the_time r h.passed k.passed fault end (has_taken h k) stops;
+          are = at_the_time r h.passed k.passed fault end (has_taken h own k) stops;
           carries = h.passes;
           talks = k.passes;
         }
 
         -- behind that
-        pub both_stop_behind : (fault : TurnFault) (end : NodeState S) → CameSo → HeardSo → StopsGoingOn storages now r fault end
+        pub both_stop_behind : (fault : TurnFault) (end : NodeState S) → CameSo → OwnSo → HeardSo → StopsGoingOn storages now r fault end
             → BothStop p n d m e fault end
-        both_stop_behind fault end h k stops = record {
+        both_stop_behind fault end h own k stops = record {
           sent = h.passed;
           said = k.passed;
-          are = behind_the_time r h.passed k.passed fault end (has_taken h k) stops;
+          are = behind_the_time r h.passed k.passed fault end (has_taken h own k) stops;
           carries = h.passes;
           talks = k.passes;
         }
@@ -458,13 +485,39 @@ module _ {S : Type 0} (storages : Ghosts S) where
     -- while it keeps its records
     pub stops_at_records : (p timed own : ProcessState S) (life : LifeState S) (knows : TimingState) (fault : TurnFault) (end : NodeState S)
         → KeepsTime storages now p life knows → timed ≡ record p { life = life; timing = knows }
-        → Moves storages now Taking timed [] [] own → StopsKeepingRecords storages own.life fault end
+        → Moves storages now Taking timed [] [] own → own.life.own ≡ [] → StopsKeepingRecords storages own.life fault end
         → StopsGoingOn storages now p fault end
-    stops_at_records p timed own life knows fault end keeps same moves stops = record {
+    stops_at_records p timed own life knows fault end keeps same moves none_waits stops = record {
       life = life;
       knows = knows;
       keeps_time = keeps;
       between = own;
       goes_on = subst (λ (x : ProcessState S). Moves storages now Taking x [] [] own) same moves;
-      ends = inr stops;
+      ends = inr (none_waits, stops);
     }
+
+    -- ---- a turn that ends with a fault
+    module _ {N D : Type 0} (carried : N → List Carried) (Carries : N → Type 0) (talk : D → List Talk) (Talks : D → Type 0) where
+      abbrev pub BothEnd : ProcessState S → N → D → N → D → TurnFault → NodeState S → Type 0
+      BothEnd p n d m e fault end =
+          PassesBoth carried Carries talk Talks (λ sent said. IsEnded storages now p sent said fault end) n d m e
+
+      pub both_end_at_once : (p : ProcessState S) (n : N) (d : D) → p.life.node.up ≡ None
+          → BothEnd p n d n d (turn_fault.Node node_fault.Down) p.life.node
+      both_end_at_once p n d down = record {
+        sent = [];
+        said = [];
+        are = at_once down;
+        carries = passes_none carried Carries n;
+        talks = passes_none talk Talks d;
+      }
+
+      pub both_end : (p : ProcessState S) (n m : N) (d e : D) (fault : TurnFault) (end : NodeState S) → IsSome p.life.node.up
+          → BothStop carried Carries talk Talks p n d m e fault end → BothEnd p n d m e fault end
+      both_end p n m d e fault end up h = record {
+        sent = h.sent;
+        said = h.said;
+        are = on_its_way h.sent h.said fault end up h.are;
+        carries = h.carries;
+        talks = h.talks;
+      }

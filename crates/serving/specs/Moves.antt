@@ -1,5 +1,5 @@
 -- What a process does in a turn, move by move.
-use Rattle.std.specs.Prelude.{◌≡◌, ◌≢◌, ◌<◌, ◌≤◌, ◌⊎◌, ◌||◌, ◌+◌, ℕ, Bool, All, List, [], ◌∷◌, ◌++◌, length, min, Option, Some, Result, Ok, Err, not, slice_get, take, true}
+use Rattle.std.specs.Prelude.{◌≡◌, ◌≢◌, ◌<◌, ◌≤◌, ◌⊎◌, ◌||◌, ◌+◌, ℕ, Bool, All, List, [], ◌∷◌, ◌++◌, length, min, Option, Some, None, IsSome, Result, Ok, Err, not, slice_get, take, true}
 use Rattle.std.specs.List.{filter}
 use Rattle.std.specs.Global.{Vec}
 use Rattle.sessions.specs.declared.submission.Submission.{Submission}
@@ -228,7 +228,7 @@ module _ {S : Type 0} (storages : Ghosts S) (now : ℕ) where
         → Move Taking p [] (Went connection ∷ []) (record p { waiting = forgetting connection p.waiting })
     keeps_records : (p : ProcessState S) (life : LifeState S) → KeepsRecords storages p.life life
         → Move Taking p [] [] (record p { life = life })
-    -- all that it holds; what its node learnt is told to nobody
+    -- all that it holds; what its node learnt is told to nobody. Whatever else it tells or sends is behind this: then it holds nothing
     lets_out : (p : ProcessState S) (sent : List Carried) (said : List Talk) (claims : List Claim)
         → AreFramesOf p.life.held.frames sent → AreRepliesTold p.waiting.claims p.life.held.replies said claims
         → Move Telling p sent said (record p {
@@ -240,12 +240,13 @@ module _ {S : Type 0} (storages : Ghosts S) (now : ℕ) where
     answers : (p : ProcessState S) (position : ℕ) (question : Question) (waiting : WaitingState) (said : List Talk) (life : LifeState S)
         → p.life.held ≡ nothing → IsPosition p.life.node position → IsNextAnswered position p.waiting waiting question
         → IsAnswered storages p.life question said life → Move Telling p [] said (record p { life = life; waiting = waiting })
-    holds_back : (p : ProcessState S) (position : ℕ) (question : Question) (rest : List Due)
+    holds_back : (p : ProcessState S) (position : ℕ) (question : Question) (rest : List Due) → p.life.held ≡ nothing
         → p.waiting.due ≡ due.Answer question ∷ rest → IsPosition p.life.node position → position < question.from
         → Move Telling p [] [] (record p {
           waiting = record p.waiting { questions = p.waiting.questions ++ question ∷ []; due = rest };
         })
-    tells : (p : ProcessState S) (connection : ℕ) (line : Vec ℕ) (rest : List Due) → p.waiting.due ≡ due.Line connection line ∷ rest
+    tells : (p : ProcessState S) (connection : ℕ) (line : Vec ℕ) (rest : List Due) → p.life.held ≡ nothing
+        → p.waiting.due ≡ due.Line connection line ∷ rest
         → Move Telling p [] (Told connection line.items ∷ []) (record p { waiting = record p.waiting { due = rest } })
     -- every reply was told and the log is full: the request is executed never, and handed on to nobody
     turns_away : (p : ProcessState S) (claim : Claim) (rest : List Claim) (refusal : Vec ℕ) → p.life.held ≡ nothing
@@ -319,6 +320,8 @@ module _ {S : Type 0} (storages : Ghosts S) (now : ℕ) where
     pub heard_so : All IsHeard last_heard
     pub all_came : came ≡ came_before ++ last_came
     pub all_heard : heard ≡ heard_before ++ last_heard
+    -- nothing came while a frame to itself waited
+    pub own : p.life.own ≡ [] → (last_came ≡ []) ⊎ (between.life.own ≡ [])
     pub ends : EndsAt storages IsOfOthers between.life.node fault n
 
   -- it has taken what has come and heard what clients did, or as much as a turn may
@@ -327,18 +330,20 @@ module _ {S : Type 0} (storages : Ghosts S) (now : ℕ) where
     pub packets : Moves Taking p came [] after_packets
     pub more_came : Bool
     pub all_packets : HasRead polled came more_came
+    pub own_packets : p.life.own ≡ [] → after_packets.life.own ≡ []
     pub lines : Moves Taking after_packets [] heard q
     pub more_heard : Bool
     pub all_lines : HasRead read heard more_heard
 
-  -- behind that and the time: at a frame of its own, or at its records
+  -- behind that and the time: at a frame of its own, or at its records, when none of those waits any more
   pub record StopsGoingOn (p : ProcessState S) (fault : TurnFault) (n : NodeState S) : Type 0 where
     pub life : LifeState S
     pub knows : TimingState
     pub keeps_time : KeepsTime storages now p life knows
     pub between : ProcessState S
     pub goes_on : Moves Taking (record p { life = life; timing = knows }) [] [] between
-    pub ends : EndsAt storages IsOfOthers between.life.node fault n ⊎ StopsKeepingRecords storages between.life fault n
+    pub ends : EndsAt storages IsOfOthers between.life.node fault n
+        ⊎ ((between.life.own ≡ []) × StopsKeepingRecords storages between.life fault n)
 
   -- while it tells: behind these moves its node was at most asked once more
   pub record StopsBehind (p : ProcessState S) (sent : List Carried) (said : List Talk) (fault : TurnFault) (n : NodeState S) : Type 0 where
@@ -346,11 +351,12 @@ module _ {S : Type 0} (storages : Ghosts S) (now : ℕ) where
     pub tells : Moves Telling p sent said between
     pub ends : EndsAt storages IsAsked between.life.node fault n
 
-  -- or the next request was handed on to the first nodes
+  -- or the next request was handed on to the first nodes of all that there are
   pub record HandsOnSome (p : ProcessState S) (sent : List Carried) : Type 0 where
     pub place : ℕ
     pub requests : List RequestState
     pub upto : ℕ
+    pub among : upto ≤ p.nodes
     pub silent : p.life.held ≡ nothing
     pub goes_on : ¬ IsFull p.life.node
     pub first : HandsOnFirst now place p.requests requests
@@ -384,3 +390,10 @@ module _ {S : Type 0} (storages : Ghosts S) (now : ℕ) where
     while_telling : (q : ProcessState S) (came sent : List Carried) (heard said : List Talk) (more : Bool) (fault : TurnFault)
         (n : NodeState S) → TakesAll p came heard q more → StopsTelling q sent said fault n
         → IsBrokenOff p (came ++ sent) (heard ++ said) fault n
+
+  -- a turn that ends with a fault: at once, where its node is down already; or it breaks off on its way, where that was up as it began, as
+  -- each move leaves it
+  pub data IsEnded (p : ProcessState S) : List Carried → List Talk → TurnFault → NodeState S → Type 0 where
+    at_once : p.life.node.up ≡ None → IsEnded p [] [] (turn_fault.Node node_fault.Down) p.life.node
+    on_its_way : (sent : List Carried) (said : List Talk) (fault : TurnFault) (n : NodeState S) → IsSome p.life.node.up
+        → IsBrokenOff p sent said fault n → IsEnded p sent said fault n

@@ -1,14 +1,15 @@
 //! A process that serves a node.
 
-ghost use Rattle.std.specs.Prelude.{◌≡◌, ℕ, [], IfErr, IfOk, OnErr, OnOk, Result};
+ghost use Rattle.std.specs.Prelude.{◌≡◌, ℕ, [], IfErr, IfOk, IsErrOf, None, OnErr, OnOk, Result};
 ghost use Rattle.node_model.specs.declared.fault.NodeFault.{NodeFault};
+ghost use Rattle.node_model.specs.declared.fault.NodeFault.TheVariants as node_fault;
 ghost use Rattle.node_model.specs.declared.input.Input.TheVariants as input;
 ghost use Rattle.world_model.specs.Lives.{down_over};
 ghost use Rattle.life.specs.Telling.{nothing};
 ghost use Rattle.serving.specs.Knowing.{IsPosition};
 ghost use Rattle.serving.specs.Learning.{Learns};
 ghost use Rattle.serving.specs.Ending.{EndsAt, HasEnded, IsGiven};
-ghost use Rattle.serving.specs.Moves.{IsGivenWhere, IsTurn, KeepsTime, IsBrokenOff, Moves, StopsKeepingRecords, StopsKeepingTime, StopsTelling, Taking, TakesAll, TellsOrNot};
+ghost use Rattle.serving.specs.Moves.{IsEnded, IsGivenWhere, IsTurn, KeepsTime, IsBrokenOff, Moves, StopsKeepingRecords, StopsKeepingTime, StopsTelling, Taking, TakesAll, TellsOrNot};
 ghost use Rattle.serving.specs.Processes.{HasLooked};
 ghost use Rattle.serving.specs.Outgoing.{IsArrival, IsRightlySent};
 ghost use Rattle.serving.specs.Owing.{BreaksOff, BreaksOffOver, KeepsEachOver};
@@ -18,6 +19,7 @@ ghost use Rattle.serving.specs.Serving.{IsServing, Passes, PassesBoth, PassesOnl
 ghost use Rattle.serving.specs.Staying.{StaysUp, WasGiven};
 ghost use Rattle.serving.specs.Timings.{IsCampaignDue, IsTickDue, IsTimeLeft, campaigned, first_timing, leader_in};
 ghost use Rattle.serving.specs.Turns.{IsOfProcess};
+ghost use Rattle.serving.specs.declared.fault.TurnFault.TheVariants as turn_fault;
 
 mod answers;
 mod arrivals;
@@ -33,7 +35,7 @@ use crate::requests::Requests;
 use crate::timing::Timing;
 use crate::waiting::Waiting;
 use life::Life;
-use node_model::Input;
+use node_model::{Input, NodeFault};
 use stable::Stable;
 use std::alloc::Global;
 use wire::{NodeId, Nodes};
@@ -118,7 +120,7 @@ impl<S: Stable + Drop> Server<S> {
     }
 
     /// Takes what has come, and hands out what comes of it: whether more may have come. After a fault the process is to end; what it
-    /// let out before that is as right as ever, and no line of a client was answered twice.
+    /// let out before that is as right as ever, and no line of a client was answered twice. Where its node is down it ends at once.
     pub fn turn<N: Network, D: Desk>(
         &mut self,
         alloc: Global,
@@ -143,10 +145,14 @@ impl<S: Stable + Drop> Server<S> {
         ensures looked { OnOk result (HasLooked (process_of self.new)) }
         ensures breaks { OnErr result (BreaksOffOver D.tape D.Tells self.old.waiting desk.old desk.new) }
         ensures stops { IfErr result (λ fault. PassesBoth N.tape N.Tells D.tape D.Tells (λ sent said.
-            IsBrokenOff S.Stable now (process_of self.old) sent said fault (life_of self.new.life).node)
+            IsEnded S.Stable now (process_of self.old) sent said fault (life_of self.new.life).node)
             network.old desk.old network.new desk.new) }
         ensures ends { IfErr result (HasEnded (life_of self.new.life).node) }
+        ensures down { (life_of self.old.life).node.up ≡ None → IsErrOf result (turn_fault.Node node_fault.Down) }
     {
+        if !self.life.node().is_up() {
+            return Err(TurnFault::Node(NodeFault::Down));
+        }
         let more_came = self.take(alloc, network, desk, now)?;
         let has_told = self.tell(alloc, network, desk, now)?;
         let is_asked = self.is_asked();

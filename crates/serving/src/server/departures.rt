@@ -1,6 +1,6 @@
 //! What a process sends to the other nodes.
 
-ghost use Rattle.std.specs.Prelude.{◌≡◌, ◌∷◌, [], IfErr, IfOk, MatchBool, OnErr, OnOk, take};
+ghost use Rattle.std.specs.Prelude.{◌≡◌, ◌≤◌, ◌∷◌, [], IfErr, IfOk, MatchBool, OnErr, OnOk, take};
 ghost use Rattle.life.specs.Telling.{nothing};
 ghost use Rattle.serving.specs.Moves.{HandsOnSome, Moves, StopsHandingOn, StopsTelling, Telling, TellsOrNot};
 ghost use Rattle.serving.specs.Owing.{BreaksOff};
@@ -180,7 +180,7 @@ impl<S: Stable + Drop> Server<S> {
         ensures only { PassesOnly N.tape N.Tells (IsPacketOf (leader_in self.now.timing) self.now.own packet.now) network.old network.new }
         ensures all { OnOk result (Passes N.tape N.Tells
             (ArePacketsOf (leader_in self.now.timing) self.now.own packet.now self.now.nodes) network.old network.new) }
-        ensures some { OnErr result (Passes N.tape N.Tells (λ sent. (upto : ℕ)
+        ensures some { OnErr result (Passes N.tape N.Tells (λ sent. (upto : ℕ) × (upto ≤ self.now.nodes)
             × ArePacketsOf (leader_in self.now.timing) self.now.own packet.now upto sent) network.old network.new) }
         ensures memory { IfErr result (λ fault. fault ≡ turn_fault.Memory) }
     {

@@ -1,4 +1,4 @@
-use Rattle.std.proofs.Common.{◌≡◌, ◌∙◌, ℕ, List, [], ◌∷◌, ◌++◌, Option, ap, refl, subst, sym}
+use Rattle.std.proofs.Common.{◌≡◌, ◌∙◌, ℕ, List, [], ◌∷◌, ◌++◌, Option, ap, arith, refl, subst, sym}
 use Rattle.serving.specs.HandingOn.{IsHandedTo}
 use Rattle.serving.specs.Outgoing.{ArePacketsOf, IsPacketOf}
 use Rattle.serving.specs.Outgoing.ArePacketsOf.{none}
@@ -66,7 +66,8 @@ pub returns-in_err-send-clause-some : goal.returns-in_err-send-clause-some
 returns-in_err-send-clause-some g c =
     let leader = leader_in c.args.self.now.timing in
     let own = c.args.self.now.own in
-    on_err _ (so_many_packets g.N.Network.tape g.N.Network.Tells leader own c.args.packet.now c.nodes.node c.args.network.now c.send.new.self
+    on_err _ (so_many_packets g.N.Network.tape g.N.Network.Tells leader own c.args.self.now.nodes c.args.packet.now c.nodes.node
+    c.args.network.now c.send.new.self (omega (arith, c.nodes-test.true, c.count-node-end.ensures.value))
     (passes_stopped g.N.Network.tape g.N.Network.Tells (ArePacketsOf leader own c.args.packet.now c.nodes.node) _ _ _ c.nodes.invariant.1
     (passes_as g.N.Network.tape g.N.Network.Tells c.nodes.network c.send.new.self (sent_in c.node.result c.args.packet.now c.send.result) []
     c.send.ensures.tape c.send.ensures.told (ap (sent_in c.node.result c.args.packet.now) c.in_err-send.was))))

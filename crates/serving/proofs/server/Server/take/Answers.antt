@@ -125,7 +125,7 @@ returns-in_err-keep_time-clause-stops g c =
     let lined = process_of c.take_lines.new.self in
     let x = err_from_is_err_and c.from_residual-in_err-keep_time.result c.from_residual-in_err-keep_time.ensures.1 in
     rw (x.1, x.2) (both_stop_timing g.S.Stable c.args.now g.N.Network.tape g.N.Network.Tells g.D.Desk.tape g.D.Desk.Tells
-    p framed lined _ _ _ _ _ _ _ _ c.in_ok-more_frames.ensures.takes (c.in_ok-more_lines.ensures.takes c.args.now)
+    p framed lined _ _ _ _ _ _ _ _ c.in_ok-more_frames.ensures.takes c.in_ok-more_frames.ensures.own (c.in_ok-more_lines.ensures.takes c.args.now)
     c.in_err-keep_time.ensures.stops)
 
 pub returns-in_err-take_own-clause-stops : goal.returns-in_err-take_own-clause-stops
@@ -136,7 +136,7 @@ returns-in_err-take_own-clause-stops g c =
     let timed = process_of c.keep_time.new.self in
     let x = err_from_is_err_and c.from_residual-in_err-take_own.result c.from_residual-in_err-take_own.ensures.1 in
     rw (x.1, x.2) (both_stop_behind g.S.Stable c.args.now g.N.Network.tape g.N.Network.Tells g.D.Desk.tape g.D.Desk.Tells
-    p framed lined _ _ _ _ _ _ _ _ c.in_ok-more_frames.ensures.takes (c.in_ok-more_lines.ensures.takes c.args.now)
+    p framed lined _ _ _ _ _ _ _ _ c.in_ok-more_frames.ensures.takes c.in_ok-more_frames.ensures.own (c.in_ok-more_lines.ensures.takes c.args.now)
     (stops_at_own g.S.Stable c.args.now lined timed (life_of c.keep_time.new.self.life) c.keep_time.new.self.timing _ _
     c.in_ok-keep_time.ensures.keeps c.keep_time.ensures.others (c.in_err-take_own.ensures.stops c.args.now)))
 
@@ -149,7 +149,7 @@ returns-in_err-keep_records-clause-stops g c =
     let own = process_of c.take_own.new.self in
     let x = err_from_is_err_and c.from_residual-in_err-keep_records.result c.from_residual-in_err-keep_records.ensures.1 in
     rw (x.1, x.2) (both_stop_behind g.S.Stable c.args.now g.N.Network.tape g.N.Network.Tells g.D.Desk.tape g.D.Desk.Tells
-    p framed lined _ _ _ _ _ _ _ _ c.in_ok-more_frames.ensures.takes (c.in_ok-more_lines.ensures.takes c.args.now)
+    p framed lined _ _ _ _ _ _ _ _ c.in_ok-more_frames.ensures.takes c.in_ok-more_frames.ensures.own (c.in_ok-more_lines.ensures.takes c.args.now)
     (stops_at_records g.S.Stable c.args.now lined timed own (life_of c.keep_time.new.self.life) c.keep_time.new.self.timing _ _
     c.in_ok-keep_time.ensures.keeps c.keep_time.ensures.others (c.in_ok-take_own.ensures.moves c.args.now)
-    c.in_err-keep_records.ensures.stops))
+    c.in_ok-take_own.ensures.own c.in_err-keep_records.ensures.stops))

@@ -80,7 +80,7 @@ returns-in_err-take_next_frame-clause-stops g c =
       passed = c.frames.invariant.3.passed;
       are = (c.frames.invariant.3.are.0, (c.frames.invariant.3.are.1, c.frames.invariant.3.are.2));
       passes = c.frames.invariant.3.passes;
-    }) c.in_err-take_next_frame.ensures.stops)
+    }) c.frames.invariant.4 c.in_err-take_next_frame.ensures.stops)
 
 pub returns-then-not-branch-clause-own : goal.returns-then-not-branch-clause-own
 returns-then-not-branch-clause-own g c = λ own. c.in_ok-take_next_frame.ensures.own (c.frames.invariant.4 own)

@@ -60,8 +60,8 @@ returns-in_default-clause-moves g c = λ now held ripe.
 pub returns-in_ok-tell-in-Line-clause-moves : goal.returns-in_ok-tell-in-Line-clause-moves
 returns-in_ok-tell-in-Line-clause-moves g c = λ now held ripe.
     passes_line g.S.Stable g.D.Desk.tape g.D.Desk.Tells now (process_of c.args.self.now) c.take_due.new.self c.in-Some.what
-    c.in-Line.connection c.in-Line.line c.as_slice.result.now c.args.desk.now c.tell.new.self c.in-Some.ensures.next c.in-Some.ensures.others
-    c.in-Line.is c.as_slice.ensures.value
+    c.in-Line.connection c.in-Line.line c.as_slice.result.now c.args.desk.now c.tell.new.self held c.in-Some.ensures.next
+    c.in-Some.ensures.others c.in-Line.is c.as_slice.ensures.value
     (passes_as g.D.Desk.tape g.D.Desk.Tells c.args.desk.now c.tell.new.self (told_in c.in-Line.connection c.as_slice.result.now c.tell.result)
     (Told c.in-Line.connection c.as_slice.result.now ∷ []) c.tell.ensures.tape c.tell.ensures.told
     (ap (told_in c.in-Line.connection c.as_slice.result.now) c.in_ok-tell-in-Line.was))

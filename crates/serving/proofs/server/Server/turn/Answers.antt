@@ -1,12 +1,13 @@
 use Rattle.serving.proofs.HandingOn.{rightly_since}
-use Rattle.serving.specs.Seen.{process_of}
+use Rattle.serving.specs.Seen.{process_of, server_of}
 use Rattle.serving.proofs.Keeping.{has_looked, moves_looking}
 use Rattle.serving.proofs.MovesKeep.{turn_keeps_each, turn_learns, turn_stays}
 use Rattle.serving.proofs.Moving.{both_quiet, both_turned}
-use Rattle.serving.proofs.Passing.{over_then}
-use Rattle.std.proofs.Common.{◌∙◌, ◌||◌}
-use Rattle.serving.proofs.Breaking.{breaks_over, breaks_then, kept_of_all, on_err}
-use Rattle.serving.proofs.Stopping.{both_stop_telling}
+use Rattle.serving.proofs.Passing.{over_quiet, over_then}
+use Rattle.std.proofs.Common.{◌∙◌, ◌||◌, IsSome, inr, refl, subst, sym}
+use Rattle.serving.proofs.Breaking.{breaks_over, breaks_still, breaks_then, kept_of_all, on_err}
+use Rattle.serving.proofs.Leading.{serves_none}
+use Rattle.serving.proofs.Stopping.{both_end, both_end_at_once, both_stop_telling, down_unless_up}
 use Rattle.std.proofs.lemmas.Result.{err_from_is_err_and}
 use Rattle.serving.proofs.server.Server.turn.Goals as goal
 
@@ -97,10 +98,37 @@ returns-in_err-has_told-clause-breaks g c =
 pub returns-in_err-more_came-clause-stops : goal.returns-in_err-more_came-clause-stops
 returns-in_err-more_came-clause-stops g c =
     let p = err_from_is_err_and c.from_residual.result c.from_residual.ensures.1 in
-    rw (p.1, p.2) c.in_err-more_came.ensures.stops
+    rw (p.1, p.2) (both_end g.S.Stable c.args.now g.N.Network.tape g.N.Network.Tells g.D.Desk.tape g.D.Desk.Tells (process_of c.args.self.now)
+    _ _ _ _ _ _ (subst (λ n. IsSome n.up) c.node.ensures (c.is_up.ensures.0 c.if-not-is_up.false)) c.in_err-more_came.ensures.stops)
 
 pub returns-in_err-has_told-clause-stops : goal.returns-in_err-has_told-clause-stops
 returns-in_err-has_told-clause-stops g c =
     let p = err_from_is_err_and c.from_residual-in_err-has_told.result c.from_residual-in_err-has_told.ensures.1 in
-    rw (p.1, p.2) (both_stop_telling g.S.Stable c.args.now g.N.Network.tape g.N.Network.Tells g.D.Desk.tape g.D.Desk.Tells (process_of c.args.self.now) (process_of c.take.new.self) _ _ _ _ _ _ _ _ _
-    c.in_ok-more_came.ensures.takes c.in_err-has_told.ensures.stops)
+    rw (p.1, p.2) (both_end g.S.Stable c.args.now g.N.Network.tape g.N.Network.Tells g.D.Desk.tape g.D.Desk.Tells (process_of c.args.self.now)
+    _ _ _ _ _ _ (subst (λ n. IsSome n.up) c.node.ensures (c.is_up.ensures.0 c.if-not-is_up.false))
+    (both_stop_telling g.S.Stable c.args.now g.N.Network.tape g.N.Network.Tells g.D.Desk.tape g.D.Desk.Tells (process_of c.args.self.now)
+    (process_of c.take.new.self) _ _ _ _ _ _ _ _ _ c.in_ok-more_came.ensures.takes c.in_err-has_told.ensures.stops))
+
+-- its node is down already
+pub returns-then-not-is_up-clause-serves : goal.returns-then-not-is_up-clause-serves
+returns-then-not-is_up-clause-serves g c =
+    over_quiet g.S.Stable g.N.Network.tape g.N.Network.Tells g.D.Desk.tape g.D.Desk.Tells (server_of c.args.self.now)
+    (server_of c.args.self.now) c.args.network.now c.args.desk.now (serves_none g.S.Stable (server_of c.args.self.now))
+
+pub returns-then-not-is_up-clause-breaks : goal.returns-then-not-is_up-clause-breaks
+returns-then-not-is_up-clause-breaks g c =
+    breaks_over g.D.Desk.tape g.D.Desk.Tells c.args.self.now.waiting c.args.desk.now c.args.desk.now
+    (breaks_still g.D.Desk.tape g.D.Desk.Tells c.args.self.now.waiting c.args.desk.now)
+
+pub returns-then-not-is_up-clause-stops : goal.returns-then-not-is_up-clause-stops
+returns-then-not-is_up-clause-stops g c =
+    both_end_at_once g.S.Stable c.args.now g.N.Network.tape g.N.Network.Tells g.D.Desk.tape g.D.Desk.Tells (process_of c.args.self.now)
+    c.args.network.now c.args.desk.now (down_unless_up _ (λ up. let yes = c.is_up.ensures.1 (subst (λ n. IsSome n.up) (sym c.node.ensures) up) in
+    let no = c.if-not-is_up.true in absurd (cc)))
+
+pub returns-then-not-is_up-clause-ends : goal.returns-then-not-is_up-clause-ends
+returns-then-not-is_up-clause-ends g c = (
+  inr refl,
+  down_unless_up _ (λ up. let yes = c.is_up.ensures.1 (subst (λ n. IsSome n.up) (sym c.node.ensures) up) in
+      let no = c.if-not-is_up.true in absurd (cc)),
+)
