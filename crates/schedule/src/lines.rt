@@ -58,7 +58,7 @@ impl<'a> Lines<'a> {
 
     /// Takes the next line, which may be empty. One that ends the file behind its last line feed is a line here.
     pub fn next_piece(&mut self) -> Option<Line<'a>>
-        ensures { MatchOption result (self.old ≡ [])
+        ensures { MatchOption result ((self.old ≡ []) × (self.new ≡ []))
             (λ line. self.old ≡ record { number = line.number; text = line.text.now } ∷ self.new) }
     {
         let (text, rest) = cut(self.rest?, b'\n');
@@ -70,7 +70,7 @@ impl<'a> Lines<'a> {
 
     /// Takes the next line that is not empty.
     pub(crate) fn next(&mut self) -> Option<Line<'a>>
-        ensures { MatchOption result (filter is_filled self.old ≡ [])
+        ensures { MatchOption result ((filter is_filled self.old ≡ []) × (self.new ≡ []))
             (λ line. filter is_filled self.old
             ≡ record { number = line.number; text = line.text.now } ∷ filter is_filled self.new) }
     {

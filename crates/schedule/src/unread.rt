@@ -84,7 +84,7 @@ impl<'a> UnreadSchedule<'a> {
     /// Reads the next line; None where none is left. One that is faulty, or that memory is wanting for, is passed as well.
     pub fn next(&mut self, alloc: Global) -> Result<Option<ScheduleLine>, ReplayFault>
         ensures { MatchResult result
-            (λ next. MatchOption next (self.old.left ≡ []) (λ line. IsReadAs self.old line self.new))
+            (λ next. MatchOption next ((self.old.left ≡ []) × (self.new ≡ self.old)) (λ line. IsReadAs self.old line self.new))
             (λ fault. IsNextRefusal self.old fault self.new) }
     {
         let Some(line) = self.lines.next() else {

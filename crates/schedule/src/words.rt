@@ -51,7 +51,7 @@ impl<'a> Words<'a> {
 
     /// Takes the next word.
     pub fn next(&mut self) -> Option<&'a [u8]>
-        ensures { MatchOption result (self.old ≡ []) (λ word. self.old ≡ word.now ∷ self.new) }
+        ensures { MatchOption result ((self.old ≡ []) × (self.new ≡ [])) (λ word. self.old ≡ word.now ∷ self.new) }
     {
         let text = self.rest?;
         let end = first_end(text, b' ');

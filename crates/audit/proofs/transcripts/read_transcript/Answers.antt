@@ -23,7 +23,7 @@ returns c = λ before read.
     let texts : transcript_lines c.args.transcript.now ≡ c.of-lines.result =
     filled_lines c.args.transcript.now filled
     ∙ (ap (λ (bytes : List ℕ). numbered 1 (pieces line_feed (Some bytes))) (sym c.without_line_feed.ensures) ∙ sym c.of-lines.ensures) in
-    let all = all_passed c.args.nodes c.args.file c.of-lines.result c.loop-line.lines c.args.read.now c.loop-line.read c.in_default.ensures
+    let all = all_passed c.args.nodes c.args.file c.of-lines.result c.loop-line.lines c.args.read.now c.loop-line.read c.in_default.ensures.0
     c.loop-line.invariant before read in
     subst (λ (lines : List NumberedText). AreRead c.args.nodes (before ++ placed_lines c.args.file lines) c.loop-line.read.learns.items
     c.loop-line.read.told.items) (sym texts) all
