@@ -1,6 +1,6 @@
 //! What is told of a run.
 
-ghost use Rattle.std.specs.Prelude.{◌≡◌, ◌++◌, drop, take, IfOk, OnErr, OnOk};
+ghost use Rattle.std.specs.Prelude.{◌≡◌, ◌++◌, [], drop, take, IfOk, OnErr, OnOk};
 ghost use Rattle.replay.specs.Parts.{Adds, TakesInParts};
 ghost use Rattle.replay.specs.Transcripts.{transcript_of, lines_of_outcome, entries_after};
 
@@ -40,7 +40,7 @@ pub fn transcript(
     }
 }
 
-/// Hands on the transcript of a run behind what waits, in parts for which there is room.
+/// Hands on the transcript of a run behind what waits, in parts for which there is room. Then nothing waits.
 pub(crate) fn print_run<K: Sink>(
     part: &mut Vec<u8>,
     sink: &mut K,
@@ -51,6 +51,7 @@ pub(crate) fn print_run<K: Sink>(
 ) -> io::Result<()>
     ensures handed { OnOk result (TakesInParts K.takes sink.old (part.old.items ++ transcript_of outcomes.now
         (record { learnt = learnt.now; replies = replies.now; answers = answers.now })) sink.new) }
+    ensures empty { OnOk result (part.new.items ≡ []) }
     ensures refused { OnErr result (K.HasFailed sink.new) }
 {
     let mut unprinted = Unprinted {

@@ -1,6 +1,6 @@
 //! A run of a schedule.
 
-ghost use Rattle.std.specs.Prelude.{◌≡◌, ◌≢◌, ◌++◌, IfErr, IfOk, MatchResult, OnErr, OnOk, vec_len};
+ghost use Rattle.std.specs.Prelude.{◌≡◌, ◌≢◌, ◌++◌, [], IfErr, IfOk, MatchResult, OnErr, OnOk, vec_len};
 ghost use Rattle.world_model.specs.Flushing.{IsStart};
 ghost use Rattle.world.specs.Seen.{world_of};
 ghost use Rattle.world_model.specs.Starting.{AreOver};
@@ -165,13 +165,15 @@ pub fn world_transcript<S: Stable>(alloc: Global, world: &World<S>) -> Result<Ve
     )
 }
 
-/// Hands on the transcript of all that happened in the world behind what waits, in parts for which there is room.
+/// Hands on the transcript of all that happened in the world behind what waits, in parts for which there is room. Then nothing
+/// waits.
 pub fn print_transcript<S: Stable, K: Sink>(
     part: &mut Vec<u8>,
     sink: &mut K,
     world: &World<S>,
 ) -> io::Result<()>
     ensures handed { OnOk result (TakesInParts K.takes sink.old (part.old.items ++ told_of (world_of world.now)) sink.new) }
+    ensures empty { OnOk result (part.new.items ≡ []) }
     ensures refused { OnErr result (K.HasFailed sink.new) }
 {
     print_run(
