@@ -3,7 +3,7 @@ use Rattle.run_map.proofs.node_map.map.Goals as goal
 
 -- the run is the surveyed one, and the fleet what its node holds
 pub returns-in-Ok-draw-clause-fleet : goal.returns-in-Ok-draw-clause-fleet
-returns-in-Ok-draw-clause-fleet c = (
+returns-in-Ok-draw-clause-fleet g c = (
   c.in-Ok-fleet_of.db.now,
   record {
     nodes = c.in-Ok.survey.nodes;
@@ -14,7 +14,7 @@ returns-in-Ok-draw-clause-fleet c = (
 )
 
 pub returns-in-Ok-draw-clause-map : goal.returns-in-Ok-draw-clause-map
-returns-in-Ok-draw-clause-map c = record {
+returns-in-Ok-draw-clause-map g c = record {
   features = c.in-Ok-fleet_of.db.now;
   left = record {
     nodes = c.in-Ok.survey.nodes;

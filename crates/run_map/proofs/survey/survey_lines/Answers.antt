@@ -7,6 +7,6 @@ use Rattle.run_map.proofs.survey.survey_lines.Goals as goal
 
 -- one line more is done
 pub loop-line-preserved : goal.loop-line-preserved
-loop-line-preserved c =
+loop-line-preserved g c =
     one_more_taken (ActionIsDone (scripted in_memory)) _ _ _ _ _ _ _ _ _ _ c.loop-line.invariant c.in-Some.ensures.steps
     (search rules)

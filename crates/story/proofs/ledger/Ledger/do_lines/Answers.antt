@@ -10,7 +10,7 @@ use Rattle.story.proofs.FollowLemmas.{all_followed, line_noted, one_more_taken, 
 use Rattle.story.proofs.ledger.Ledger.do_lines.Goals as goal
 
 pub loop-line-init : goal.loop-line-init
-loop-line-init c = record {
+loop-line-init g c = record {
   kept = c.requires.kept;
   goes_on = c.requires.goes_on;
   taken = record { parts = refl; counted = search rules };
@@ -18,7 +18,7 @@ loop-line-init c = record {
 }
 
 pub loop-line-preserved : goal.loop-line-preserved
-loop-line-preserved c =
+loop-line-preserved g c =
     let noted = line_noted (scripted in_memory) c.args.self.now.lines.items c.args.self.now.steps.items (world_of c.args.self.now.world)
     c.loop-line.yielded c.in-Some.line c.loop-line.self.lines.items c.begin_line.new.self.lines.items c.do_line.new.self.lines.items
     c.loop-line.self.steps.items c.begin_line.new.self.steps.items c.do_line.new.self.steps.items
@@ -34,7 +34,7 @@ loop-line-preserved c =
     }
 
 pub returns-in-Some-fault-clause-followed : goal.returns-in-Some-fault-clause-followed
-returns-in-Some-fault-clause-followed c =
+returns-in-Some-fault-clause-followed g c =
     let noted = line_noted (scripted in_memory) c.args.self.now.lines.items c.args.self.now.steps.items (world_of c.args.self.now.world)
     c.loop-line.yielded c.in-Some.line c.loop-line.self.lines.items c.begin_line.new.self.lines.items c.do_line.new.self.lines.items
     c.loop-line.self.steps.items c.begin_line.new.self.steps.items c.do_line.new.self.steps.items
@@ -47,7 +47,7 @@ returns-in-Some-fault-clause-followed c =
     c.in-Some-fault.is noted
 
 pub returns-clause-followed : goal.returns-clause-followed
-returns-clause-followed c =
+returns-clause-followed g c =
     let none_left : into_iter_len c.loop-line.line-iterator ≡ 0 = search rules in
     all_followed (scripted in_memory) c.args.self.now.lines.items c.args.self.now.steps.items (world_of c.args.self.now.world) _ _ _ _ _
     c.loop-line.self.lines.items c.loop-line.self.steps.items (world_of c.loop-line.self.world) c.loop-line.self.fault

@@ -10,7 +10,7 @@ use Rattle.story.proofs.ledger.Ledger.do_lines.Given as goal
 
 -- the lines that were taken are done and noted, and the others are left
 abbrev pub invariant-loop-line : goal.invariant-loop-line
-invariant-loop-line l = record {
+invariant-loop-line g l = record {
   kept : IsKept l.self;
   goes_on : l.self.fault ≡ None;
   taken : AreTaken (into_iter_items l.initial.line-iterator) l.yielded (into_iter_items l.line-iterator)
