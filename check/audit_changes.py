@@ -21,7 +21,7 @@ from collections import Counter
 HERE = os.path.dirname(os.path.abspath(__file__))
 EXAMPLES = os.path.join(os.path.dirname(HERE), "examples")
 NOBODY = "255:18446744073709551615"
-OTHER_CODE = {"0": "24", "31": "32"}
+CODES = ("31", "24", "32", "21")
 
 
 def pairs(folder):
@@ -37,8 +37,14 @@ def pairs(folder):
                     yield os.path.join(folder, name), os.path.join(folder, name + ".stdout")
 
 
-def changes(line):
-    """The line changed in one place, in several ways."""
+def other_code(lines, request):
+    """A code that no line replies with to this request: a reply names no position, so one of another slot's would be right."""
+    replied = {line.rsplit(" ", 1)[1] for line in lines if line.startswith("reply ") and line.split(" ")[2] == request}
+    return next(code for code in CODES if code not in replied)
+
+
+def changes(line, lines):
+    """This line of the transcript's changed in one place, in several ways."""
     words = line.split(" ")
     kind, rest = words[0], words[1:]
     if kind == "learn":
@@ -47,7 +53,7 @@ def changes(line):
         yield " ".join([kind, "9", rest[1], rest[2]])
     elif kind == "reply":
         yield " ".join([kind, rest[0], NOBODY, rest[2]])
-        yield " ".join([kind, rest[0], rest[1], OTHER_CODE.get(rest[2], "31")])
+        yield " ".join([kind, rest[0], rest[1], other_code(lines, rest[1])])
     elif kind == "answer":
         yield line + "x"
         yield " ".join([kind, rest[0], "65537"] + rest[2:])
@@ -61,7 +67,7 @@ def changes(line):
 def changed(lines):
     """The transcripts that differ in one line, each with the line's number, from 1."""
     for at, line in enumerate(lines):
-        for other in changes(line):
+        for other in changes(line, lines):
             if other != line:
                 yield at + 1, lines[:at] + [other] + lines[at + 1 :]
 
