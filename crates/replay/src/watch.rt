@@ -7,6 +7,7 @@ pub trait Watch {
 }
 
 /// Nobody is told.
+#[derive(Clone, Copy)]
 pub struct Unwatched;
 
 impl Watch for Unwatched {

@@ -66,6 +66,7 @@ deliver 1000
 ";
 
 // Of each line that is done, its number and how many frames there are.
+#[derive(Drop)]
 struct Noted {
     lines: Vec<(u64, usize)>,
 }
@@ -225,11 +226,14 @@ fn a_watch_is_told_of_each_line_that_is_done(rt: HostRuntime) -> Result<(), Fail
         lines: Vec::new(alloc),
     };
     let _ = tell(alloc, SCHEDULE, Form::Words, false, &mut noted)?;
-    assert_eq!(rt; noted.lines.as_slice(), &[(2, 0), (4, 3), (5, 18), (6, 18)]);
+    assert_eq!(rt;
+        noted.lines.as_slice(),
+        [(2, 0), (4, 3), (5, 18), (6, 18)].as_slice()
+    );
     let _ = draw(alloc, WELL, None, None, &mut noted)?;
-    assert_eq!(rt; &noted.lines[4..], &[(2, 0), (3, 3)]);
+    assert_eq!(rt; &noted.lines[4..], [(2, 0), (3, 3)].as_slice());
     let _ = map(alloc, WELL, None, 0, &mut noted);
-    assert_eq!(rt; &noted.lines[6..], &[(2, 0), (3, 3)]);
+    assert_eq!(rt; &noted.lines[6..], [(2, 0), (3, 3)].as_slice());
     Ok(())
 }
 
