@@ -222,18 +222,24 @@ fn a_frame_of_a_round_is_sent_when_what_it_answers_has_come(rt: HostRuntime) -> 
 #[test]
 fn a_watch_is_told_of_each_line_that_is_done(rt: HostRuntime) -> Result<(), Fail> {
     let alloc = rt.alloc();
-    let mut noted = Noted {
+    let mut told = Noted {
         lines: Vec::new(alloc),
     };
-    let _ = tell(alloc, SCHEDULE, Form::Words, false, &mut noted)?;
+    let _ = tell(alloc, SCHEDULE, Form::Words, false, &mut told)?;
     assert_eq!(rt;
-        noted.lines.as_slice(),
+        told.lines.as_slice(),
         [(2, 0), (4, 3), (5, 18), (6, 18)].as_slice()
     );
-    let _ = draw(alloc, WELL, None, None, &mut noted)?;
-    assert_eq!(rt; &noted.lines[4..], [(2, 0), (3, 3)].as_slice());
-    let _ = map(alloc, WELL, None, 0, &mut noted);
-    assert_eq!(rt; &noted.lines[6..], [(2, 0), (3, 3)].as_slice());
+    let mut drawn = Noted {
+        lines: Vec::new(alloc),
+    };
+    let _ = draw(alloc, WELL, None, None, &mut drawn)?;
+    assert_eq!(rt; drawn.lines.as_slice(), [(2, 0), (3, 3)].as_slice());
+    let mut mapped = Noted {
+        lines: Vec::new(alloc),
+    };
+    let _ = map(alloc, WELL, None, 0, &mut mapped);
+    assert_eq!(rt; mapped.lines.as_slice(), [(2, 0), (3, 3)].as_slice());
     Ok(())
 }
 
